@@ -1,17 +1,24 @@
-"""The examples of docs/POLICY.md and docs/GRAPHS.md: what a page says is printed, and what it says becomes of packets.
+"""The examples of docs/POLICY.md, docs/PLANS.md, docs/FAULTS.md and docs/GRAPHS.md: what a page says is printed, and what it says becomes of packets.
 
-Each block of a policy, or of a command that prints one, has behind it what `nfp plan` prints for it. Behind a block of graphs, or of a command that prints
-them, stands what `nfp plan --graph` prints for it and the last policy before it; a page of graphs has commands for check-looking too. Behind that may stand a table of
-packets with the head `| record | ..`, and a block of the report that they give. A packet is spelled as in `UDP from 10.1.4.20:40000 to
-198.51.100.5:53` or `ping from 2001:db8::7 to 2001:db8::80`, with brackets where a port stands behind an address of IPv6. More stands
-behind it where that counts: `, 500 bytes` for its length with the IP header, `, tos 184`, `, ttl 1` for the hop limit of IPv6 too, `,
+After each block of a policy, or of a command that prints one, comes what `nfp plan` prints for it, or a table. After a block of graphs, or of a command that prints
+them, comes what `nfp plan --graph` prints for it and the last policy before it; a page of graphs has commands for check-looking too.
+
+A table of packets has the head `| record | ..`, and a block of the report that they give follows it. A packet is spelled as in `UDP from 10.1.4.20:40000 to
+198.51.100.5:53` or `ping from 2001:db8::7 to 2001:db8::80`, with brackets if a port follows an address of IPv6. More
+follows if that matters: `, 500 bytes` for its length with the IP header, `, tos 184`, `, ttl 1` for the hop limit of IPv6 too, `,
 traffic class 184` and `, payload length 0` of an IPv6 header, `, data ..` for what UDP or TCP carry, `, tags 100 and 7 pcp 5` for the
 VLAN ids of its tags from the outermost on, with priorities that aren't 0, and `, cut to 20 bytes` for what was captured of the frame; `,
 a later fragment`, without ports, `, behind a routing header` and the like for an extension header of IPv6, and `, in MPLS` and the like
-for what it stands in, `, in a tunnel from 192.0.2.1 to 192.0.2.2` for an IPv4 packet in another of these addresses. What becomes of it is told in
+for what it is inside, `, in a tunnel from 192.0.2.1 to 192.0.2.2` for an IPv4 packet in another of these addresses. What becomes of it is spelled in
 the same words, and of what comes `out of the tunnel` its ends.
+
+A table of lines has the head `| the line | .. | reported | ..`. Each of its rows is a policy of its own: the one above the table, changed by the lines in the first cell. A `set` takes the place of that
+of the policy, and every other line comes at the end, or at the end of the chain that the cell under `in the chain` names; `no ..` removes the lines that begin so, `, a second time` adds a `set`, and `, alone` removes the
+lines of this sort first. What is reported is `this line` or `the fn line` of a bad setting, or the fault, in which L is the number of the last line that was put in. The lines in
+the last cell have to be accepted in the same way, each alternative (`, or`) by itself.
 """
 
+import pathlib
 import re
 import struct
 import subprocess
@@ -22,8 +29,14 @@ import graph_rules
 import packet_rules
 import policy_rules
 
-BLOCK, TABLE = r'^```(policy|sh|graph|graph-sh|plan|order|report)\n(.*?)^```$', r'^\| record \|([^\n]*)\n\|[-|]+\n((?:\|[^\n]*\n)+)'
+DOCS = pathlib.Path(__file__).resolve().parent.parent / 'docs'
+POLICY, PLANS, FAULTS, GRAPHS = (DOCS / name for name in ('POLICY.md', 'PLANS.md', 'FAULTS.md', 'GRAPHS.md'))
+REFERENCE = [POLICY, PLANS, FAULTS]  # the pages of the language, without that of graphs written by hand
+
+BLOCK = r'^```(policy|sh|graph|graph-sh|plan|order|report)\n(.*?)^```$'
+TABLE = r'^\| (record|the line) \|([^\n]*)\n\|[-|]+\n((?:\|[^\n]*\n)+)'
 PART = re.compile(f'{BLOCK}|{TABLE}', re.MULTILINE | re.DOTALL)
+CODE, STATEMENT = re.compile('`([^`]+)`'), re.compile('(?:chain|fn|set|rule|order|priority|position|#) [^`]*')
 END = re.compile(r'\[([0-9a-f:]+)\]:(\d+)|([0-9.]+):(\d+)|([0-9.]+|[0-9a-f:]+)')
 PACKET = re.compile(r'(UDP|TCP|ping) from (\S+) to (\S+)')
 TAG = r'(\d+)(?: pcp (\d))?'
@@ -50,8 +63,15 @@ class Planned(typing.NamedTuple):
     graphs: typing.Optional[bytes] = None
 
 
+class Tried(typing.NamedTuple):
+    """A policy with the lines of a row."""
+
+    policy: bytes
+    told: typing.Optional[str]  # what the page says is reported, or nothing if it is accepted
+
+
 class Led(typing.NamedTuple):
-    """Packets that are led through a policy."""
+    """Packets that are sent through a policy."""
 
     policy: bytes
     capture: bytes
@@ -163,10 +183,54 @@ def microseconds(text):
     return int(whole) * 1_000_000 + int(fraction.ljust(6, '0'))
 
 
+def cells_of(lead, head, rows):
+    """The rows of a table, each its cells by the names of their columns."""
+    names = [name.strip() for name in f'{lead} |{head}'.strip('| ').split('|')]
+    return [dict(zip(names, (cell.strip() for cell in row.removeprefix('|').removesuffix('|').split('|')), strict=True)) for row in rows.splitlines()]
+
+
+def changed(policy, said, chain=None):
+    """The lines of a policy, changed as a cell says, and the number of the last line that was put in."""
+    lines, spans, last = policy.splitlines(), CODE.findall(said), 0
+    if said.startswith('no '):
+        return [line for line in lines if not line.startswith(f'{spans[0]} ')], last
+    if said.endswith(', alone'):
+        lines = [line for line in lines if line.split()[:2] != spans[0].split()[:2]]
+    for new in spans:
+        of_key = [at for at, line in enumerate(lines) if new.startswith('set ') and line.split()[:2] == new.split()[:2]]
+        if of_key and not said.endswith(', a second time'):
+            last = of_key[-1]
+            lines[last] = new
+            continue
+        begun = next((at for at, line in enumerate(lines) if line.split()[:2] == ['chain', chain]), len(lines))
+        last = next((at for at, line in enumerate(lines) if at > begun and line.startswith('chain ')), len(lines))
+        lines.insert(last, new)
+    return lines, last + 1
+
+
+def tried(policy, head, rows):
+    """The policies of a table of lines."""
+    for row in cells_of('the line', head, rows):
+        lines, at = changed(policy, row['the line'], row.get('in the chain', '').strip('`'))
+        function = max(number for number, line in enumerate(lines, 1) if line.startswith('fn '))
+        if row['reported'] in ('this line', 'the `fn` line'):
+            fault = f'line {function if "fn" in row["reported"] else at}: bad setting'
+        else:
+            fault = CODE.fullmatch(row['reported'])[1].replace('line L', f'line {at}')
+        yield Tried(text_of(lines), f'policy: {fault}\n')
+        for way in list(row.values())[-1].split(', or '):
+            cure = ' '.join(f'`{span}`' for span in CODE.findall(way) if STATEMENT.fullmatch(span))
+            if cure:
+                yield Tried(text_of(changed(policy, cure, row.get('in the chain', '').strip('`'))[0]), None)
+
+
+def text_of(lines):
+    return '\n'.join([*lines, '']).encode('ascii')
+
+
 def led(policy, head, rows, report):
     """The packets of a table, the capture that they make, and what the table says of them."""
-    names = [name.strip() for name in f'record |{head}'.strip('| ').split('|')]
-    cells = [dict(zip(names, (cell.strip() for cell in row.strip('|').split('|')), strict=True)) for row in rows.splitlines()]
+    cells = cells_of('record', head, rows)
     if [row['record'] for row in cells] != [str(at) for at in range(1, len(cells) + 1)]:
         raise ValueError(f'records that do not count from 1: {rows}')
     records = [(microseconds(row.get('second', str(at))), '', *frame_of(row['packet'])) for at, row in enumerate(cells)]
@@ -181,8 +245,8 @@ def printed(command):
 def examples_of(page, is_of_graphs=False):
     """All examples of the page, in their order."""
     policy, graphs, answered, table = None, None, True, None
-    for kind, text, head, rows in PART.findall(page):
-        if kind == 'sh' and is_of_graphs:
+    for kind, text, lead, head, rows in PART.findall(page):
+        if kind == 'sh' and is_of_graphs or lead == 'the line' and ' reported |' not in head:
             continue
         if kind in ('policy', 'sh'):
             if not answered or table:
@@ -200,14 +264,28 @@ def examples_of(page, is_of_graphs=False):
         elif kind == 'report':
             yield led(policy, *table, text)
             table = None
+        elif lead == 'the line':
+            answered = True
+            yield Tried(policy, None)
+            yield from tried(policy.decode('ascii'), head, rows)
         else:
-            table = head, rows
+            answered, table = True, (head, rows)
     if not answered or table:
         raise ValueError(f'an example without what is printed: {policy}')
 
 
+def examples_of_pages(pages=(*REFERENCE, GRAPHS)):
+    """All examples of these pages, each with its page."""
+    for page in pages:
+        for example in examples_of(page.read_text('ascii'), page == GRAPHS):
+            yield page, example
+
+
 def untrue(example):
-    """What the rules say in place of what the page says, or nothing where both say the same."""
+    """What the rules say in place of what the page says, or nothing if both say the same."""
+    if isinstance(example, Tried):
+        due, status = policy_rules.plan(example.policy)
+        return '' if (status == 0 if example.told is None else due == example.told) else due or 'no chain'
     if isinstance(example, Planned):
         due = (policy_rules.plan(example.policy) if example.graphs is None else graph_rules.plan(example.policy, example.graphs))[0]
         due = policy_rules.order_lines(due) if example.orders else due
