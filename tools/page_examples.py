@@ -274,6 +274,11 @@ def examples_of(page, is_of_graphs=False):
         raise ValueError(f'an example without what is printed: {policy}')
 
 
+def reference():
+    """The text of the pages of the language, one after another."""
+    return '\n'.join(page.read_text('ascii') for page in REFERENCE)
+
+
 def examples_of_pages(pages=(*REFERENCE, GRAPHS)):
     """All examples of these pages, each with its page."""
     for page in pages:
