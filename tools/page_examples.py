@@ -8,7 +8,7 @@ A table of packets has the head `| record | ..`, and a block of the report that 
 follows if that matters: `, 500 bytes` for its length with the IP header, `, tos 184`, `, ttl 1` for the hop limit of IPv6 too, `,
 traffic class 184` and `, payload length 0` of an IPv6 header, `, data ..` for what UDP or TCP carry, `, tags 100 and 7 pcp 5` for the
 VLAN ids of its tags from the outermost on, with priorities that aren't 0, and `, cut to 20 bytes` for what was captured of the frame; `,
-a later fragment`, without ports, `, behind a routing header` and the like for an extension header of IPv6, and `, in MPLS` and the like
+a later fragment`, without ports, `, with a routing header` and the like for an extension header of IPv6, and `, in MPLS` and the like
 for what it is inside, `, in a tunnel from 192.0.2.1 to 192.0.2.2` for an IPv4 packet in another of these addresses. What becomes of it is spelled in
 the same words, and of what comes `out of the tunnel` its ends.
 
@@ -50,7 +50,7 @@ MORE = {
     'tags': re.compile(f'tags? ({TAG}(?: and {TAG})*)'),
     'data': re.compile('data `(.*)`'),
     'fragment': re.compile('(a later fragment)'),
-    'behind': re.compile('behind a (hop-by-hop|routing|fragment|destination) header'),
+    'extension': re.compile('with a (hop-by-hop|routing|fragment|destination) header'),
     'tunnel': re.compile(r'in a tunnel (from [0-9.]+ to [0-9.]+)'),
     'inside': re.compile('in (PPPoE|MPLS|LLC|GRE|IPv4|VXLAN|a tag of type 0x9100)'),
 }
@@ -80,7 +80,7 @@ class Led(typing.NamedTuple):
 
 
 def more_of(parts):
-    """What is said of a packet behind its ends."""
+    """What is said of a packet after its ends."""
     said = {name: form.fullmatch(part)[1] for part in parts for name, form in MORE.items() if form.fullmatch(part)}
     if len(said) != len(parts):
         raise ValueError(f'not said of a packet: {parts}')
@@ -102,12 +102,12 @@ def arp(tags):
     return frames.ethernet(frames.TYPE_ARP, request[14:], tags=tags, to=frames.BROADCAST)
 
 
-# What is told without ends.
+# What has no ends.
 OTHERS = {'ARP': arp}
 
 
-def behind(ether_type, header):
-    """A frame with a packet of IPv4 behind this type and this header."""
+def after(ether_type, header):
+    """A frame with a packet of IPv4 after this type and this header."""
     return lambda frame: frames.ethernet(ether_type, header(len(frame) - 14) + frame[14:])
 
 
@@ -122,11 +122,11 @@ def in_tunnel(frame, entry, end):
     return frames.plain(entry, frames.carried(frame[header.begin : header.end]), to=end, tags=frame[12 : header.begin - 2])
 
 
-# What a packet may stand in, where no rule sees it, and the frame that has it there.
+# What a packet may be in, where no rule sees it, and the frame that has it there.
 INSIDE = {
-    'PPPoE': behind(frames.TYPE_PPPOE, lambda size: struct.pack('>BBHHH', 0x11, 0, 1, size + 2, 0x21)),
-    'MPLS': behind(0x8847, lambda _: struct.pack('>I', 100 << 12 | 1 << 8 | 64)),
-    'LLC': lambda frame: behind(len(frame) - 14 + 8, lambda _: bytes.fromhex('aaaa03 000000 0800'))(frame),
+    'PPPoE': after(frames.TYPE_PPPOE, lambda size: struct.pack('>BBHHH', 0x11, 0, 1, size + 2, 0x21)),
+    'MPLS': after(0x8847, lambda _: struct.pack('>I', 100 << 12 | 1 << 8 | 64)),
+    'LLC': lambda frame: after(len(frame) - 14 + 8, lambda _: bytes.fromhex('aaaa03 000000 0800'))(frame),
     'GRE': tunnelled(lambda frame: (47, lambda *_: bytes.fromhex('0000 0800') + frame[14:])),
     'IPv4': tunnelled(lambda frame: (41, lambda *_: frame[14:])),
     'VXLAN': tunnelled(lambda frame: frames.udp(50000, 4789, bytes.fromhex('08000000 00000700') + frame)),
@@ -139,7 +139,7 @@ EXTENSIONS = {'hop-by-hop': frames.HOP_BY_HOP, 'routing': frames.ROUTING, 'fragm
 
 
 def end_of(text):
-    """The address and the port that an end tells, or no port."""
+    """The address and the port of an end, or no port."""
     spelled = END.fullmatch(text)
     if spelled is None:
         raise ValueError(f'no end of a packet: {text}')
@@ -161,14 +161,14 @@ def packet_of(text, said, tags):
             content = frames.extended(frames.FRAGMENT, rest, offset=1480)
         else:
             content, fields['offset'] = rest, 1480
-    elif 'behind' in said:
-        content = frames.extended(EXTENSIONS[said['behind']], content, more=said['behind'] == 'fragment')
+    elif 'extension' in said:
+        content = frames.extended(EXTENSIONS[said['extension']], content, more=said['extension'] == 'fragment')
     made = frames.plain6 if is_ipv6 else frames.plain
     return made(source, content, to=destination, tags=tags, **fields)
 
 
 def content_of(what, source_port, port, said, is_ipv6):
-    """What stands behind the IP header of a packet of this kind."""
+    """What follows the IP header of a packet of this kind."""
     if what == 'ping':
         return frames.echo6(1) if is_ipv6 else frames.echo(1)
     header = (40 if is_ipv6 else 20) + (20 if what == 'TCP' else 8)
@@ -178,7 +178,7 @@ def content_of(what, source_port, port, said, is_ipv6):
 
 
 def microseconds(text):
-    """A moment in seconds, with a point where there is a fraction."""
+    """A moment in seconds, with a point if there is a fraction."""
     whole, _, fraction = text.partition('.')
     return int(whole) * 1_000_000 + int(fraction.ljust(6, '0'))
 
@@ -309,14 +309,14 @@ def fate_text(frame, fate):
     entered = max(len(after) - len(before), 0)
     parts = [f'in a tunnel {tunnel_text(layer)}' for layer in after[:entered]]
     if len(after) < len(before):
-        # (of a packet that was cut off before its addresses nothing more is told)
+        # (of a packet that was cut off before its addresses nothing more is known)
         parts += ['out of the tunnel'] + ([ends_text(fate.frame)] if packet_rules.Packet(fate.frame, 0).has('src', 'dst') else [])
     was, now = before[max(len(before) - len(after), 0)], after[entered]
     return ', '.join(parts + changes_of(was, now, len(after) >= len(before))) or 'passes'
 
 
 def layers_of(frame):
-    """A frame, and as long as a packet of IPv4 stands in one the frame without the outer one."""
+    """A frame, and as long as it has a packet of IPv4 in another one, the frame without the outer one."""
     layers = [frame]
     while True:
         header = packet_rules.Packet(layers[-1], 0).header
@@ -360,7 +360,7 @@ def ends_text(frame):
 
 
 def end_text(address, port):
-    """An address, and a port where there is one. One of IPv6 stands in brackets before it (RFC 5952, 6)."""
+    """An address, and its port if there is one. One of IPv6 has brackets before a port (RFC 5952, 6)."""
     if port is None:
         return f'{address}'
     return f'[{address}]:{port}' if address.version == 6 else f'{address}:{port}'
