@@ -16,8 +16,11 @@ A table of lines has the head `| the line | .. | reported | ..`. Each of its row
 of the policy, and every other line comes at the end, or at the end of the chain that the cell under `in the chain` names; `no ..` removes the lines that begin so, `, a second time` adds a `set`, and `, alone` removes the
 lines of this sort first. What is reported is `this line` or `the fn line` of a bad setting, or the fault, in which L is the number of the last line that was put in. The lines in
 the last cell have to be accepted in the same way, each alternative (`, or`) by itself.
+
+The table of forbidden priorities has the head `| B | A .. |`. Each pair of kinds is a policy with `priority a > b`, which is forbidden if the table has the pair, and else accepted.
 """
 
+import itertools
 import pathlib
 import re
 import struct
@@ -34,7 +37,7 @@ POLICY, PLANS, FAULTS, GRAPHS = (DOCS / name for name in ('POLICY.md', 'PLANS.md
 REFERENCE = [POLICY, PLANS, FAULTS]  # the pages of the language, without that of graphs written by hand
 
 BLOCK = r'^```(policy|sh|graph|graph-sh|plan|order|report)\n(.*?)^```$'
-TABLE = r'^\| (record|the line) \|([^\n]*)\n\|[-|]+\n((?:\|[^\n]*\n)+)'
+TABLE = r'^\| (record|the line|B) \|([^\n]*)\n\|[-|]+\n((?:\|[^\n]*\n)+)'
 PART = re.compile(f'{BLOCK}|{TABLE}', re.MULTILINE | re.DOTALL)
 CODE, STATEMENT = re.compile('`([^`]+)`'), re.compile('(?:chain|fn|set|rule|order|priority|position|#) [^`]*')
 END = re.compile(r'\[([0-9a-f:]+)\]:(\d+)|([0-9.]+):(\d+)|([0-9.]+|[0-9a-f:]+)')
@@ -53,6 +56,16 @@ MORE = {
     'extension': re.compile('with a (hop-by-hop|routing|fragment|destination) header'),
     'tunnel': re.compile(r'in a tunnel (from [0-9.]+ to [0-9.]+)'),
     'inside': re.compile('in (PPPoE|MPLS|LLC|GRE|IPv4|VXLAN|a tag of type 0x9100)'),
+}
+
+
+# The lines that kinds require.
+REQUIRED = {
+    'nat': ['set inside 10.0.0.0/8', 'set public 192.0.2.1', 'set ports 40000-40999'],
+    'balancer': ['set vip 192.0.2.1', 'rule backend 10.9.0.1'],
+    'limiter': ['set rate 1000', 'set burst 2000'],
+    'encap': ['set entry 192.0.2.1', 'set exit 192.0.2.2', 'set ttl 64'],
+    'decap': ['set exit 192.0.2.2'],
 }
 
 
@@ -224,6 +237,19 @@ def tried(policy, head, rows):
                 yield Tried(text_of(changed(policy, cure, row.get('in the chain', '').strip('`'))[0]), None)
 
 
+def pairs(rows):
+    """A policy for each pair of kinds, with a priority."""
+    forbidden = {}
+    for first, second, ends in (row.removeprefix('|').removesuffix('|').split('|') for row in rows.splitlines()):
+        forbidden.update({(b, a): CODE.findall(ends)[0] for b in CODE.findall(first) for a in CODE.findall(second)})
+    for b, a in itertools.product(policy_rules.KINDS, repeat=2):
+        lines = ['nfp 1', 'chain c', f'fn b {b}', *REQUIRED.get(b, []), f'fn a {a}', *REQUIRED.get(a, []), 'priority a > b']
+        due = forbidden.pop((b, a), None)
+        yield Tried(text_of(lines), due and f'policy: line {len(lines)}: priority a over b forbidden: {due}\n')
+    if forbidden:
+        raise ValueError(f'no kinds: {forbidden}')
+
+
 def text_of(lines):
     return '\n'.join([*lines, '']).encode('ascii')
 
@@ -247,6 +273,9 @@ def examples_of(page, is_of_graphs=False):
     policy, graphs, answered, table = None, None, True, None
     for kind, text, lead, head, rows in PART.findall(page):
         if kind == 'sh' and is_of_graphs or lead == 'the line' and ' reported |' not in head:
+            continue
+        if lead == 'B':
+            yield from pairs(rows)
             continue
         if kind in ('policy', 'sh'):
             if not answered or table:
