@@ -18,6 +18,7 @@ lines of this sort first. What is reported is `this line` or `the fn line` of a 
 the last cell have to be accepted in the same way, each alternative (`, or`) by itself.
 
 The table of forbidden priorities has the head `| B | A .. |`. Each pair of kinds is a policy with `priority a > b`, which is forbidden if the table has the pair, and else accepted.
+The table of values has the head `| value | spelling | good | not good |`: a firewall has a rule with each of them.
 """
 
 import itertools
@@ -37,7 +38,7 @@ POLICY, PLANS, FAULTS, GRAPHS = (DOCS / name for name in ('POLICY.md', 'PLANS.md
 REFERENCE = [POLICY, PLANS, FAULTS]  # the pages of the language, without that of graphs written by hand
 
 BLOCK = r'^```(policy|sh|graph|graph-sh|plan|order|report)\n(.*?)^```$'
-TABLE = r'^\| (record|the line|B) \|([^\n]*)\n\|[-|]+\n((?:\|[^\n]*\n)+)'
+TABLE = r'^\| (record|the line|B|value) \|([^\n]*)\n\|[-|]+\n((?:\|[^\n]*\n)+)'
 PART = re.compile(f'{BLOCK}|{TABLE}', re.MULTILINE | re.DOTALL)
 CODE, STATEMENT = re.compile('`([^`]+)`'), re.compile('(?:chain|fn|set|rule|order|priority|position|#) [^`]*')
 END = re.compile(r'\[([0-9a-f:]+)\]:(\d+)|([0-9.]+):(\d+)|([0-9.]+|[0-9a-f:]+)')
@@ -250,6 +251,15 @@ def pairs(rows):
         raise ValueError(f'no kinds: {forbidden}')
 
 
+def values(head, rows):
+    """A policy for each value."""
+    words = {'number': 'dport', 'RANGE': 'dport', 'P': 'proto', 'N of `tag`': 'tag'}
+    for row in cells_of('value', head, rows):
+        for good, value in [(True, value) for value in CODE.findall(row['good'])] + [(False, value) for value in CODE.findall(row['not good'])]:
+            rule = f'rule deny {words.get(row["value"], "src")} {value}'
+            yield Tried(text_of(['nfp 1', 'chain c', 'fn f firewall', rule]), None if good else 'policy: line 4: bad setting\n')
+
+
 def text_of(lines):
     return '\n'.join([*lines, '']).encode('ascii')
 
@@ -274,8 +284,8 @@ def examples_of(page, is_of_graphs=False):
     for kind, text, lead, head, rows in PART.findall(page):
         if kind == 'sh' and is_of_graphs or lead == 'the line' and ' reported |' not in head:
             continue
-        if lead == 'B':
-            yield from pairs(rows)
+        if lead in ('B', 'value'):
+            yield from pairs(rows) if lead == 'B' else values(head, rows)
             continue
         if kind in ('policy', 'sh'):
             if not answered or table:
