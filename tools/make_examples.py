@@ -2,17 +2,20 @@
 """Makes the captures of the examples, and works out from the rules what must come out.
 
     tools/make_examples.py                writes the capture, expected/ and plan.svg of each example
-    tools/make_examples.py --check        writes nothing, and fails where a file is not what would be written, an example
-                                          of docs/POLICY.md or docs/GRAPHS.md is not what the rules say, or README.md shows
+    tools/make_examples.py --check        writes nothing, and fails if a file is not what would be written, an example
+                                          of the pages is not what the rules say, or README.md shows
                                           a policy or a report that is not in its example
     tools/make_examples.py --list NAME    prints a line for each record of this example: what it is, and what becomes of it
-    tools/make_examples.py --page FOLDER  writes a folder like those of the examples for each table of packets in
-                                          docs/POLICY.md
+    tools/make_examples.py --page FOLDER  writes a folder like those of the examples for each table of packets of the pages
+    tools/make_examples.py --lines FOLDER writes a folder like those of the examples, without a capture, for each row of the tables of
+                                          lines of the pages, and for what these rows say to write instead
+
+The pages are docs/POLICY.md, docs/PLANS.md, docs/FAULTS.md and docs/GRAPHS.md (page_examples.py).
 
 The expected files are worked out here, with Python's standard library alone, and never taken from the program's own
 output: two accounts of the same rules that agree say more than one. policy_rules.py has those of the language,
-packet_rules.py those of the functions, graph_rules.py those of graphs, and capture_rules.py those of captures. Where an example has a file graphs, it is
-planned and run with these, and once without them, where the plan is another and the report tells other copies. A capture is called in.pcap or in.pcapng by its format, and
+packet_rules.py those of the functions, graph_rules.py those of graphs, and capture_rules.py those of captures. An example with a file graphs is
+planned and run with these, and once without them, which gives another plan and other copies in the report. A capture is called in.pcap or in.pcapng by its format, and
 what is written of it out.pcap or out.pcapng.
 """
 
@@ -30,7 +33,7 @@ import policy_rules
 from example_captures import MADE
 
 EXAMPLES = pathlib.Path(__file__).resolve().parent.parent / 'examples'
-PAGE, GRAPHS, README = EXAMPLES.parent / 'docs' / 'POLICY.md', EXAMPLES.parent / 'docs' / 'GRAPHS.md', EXAMPLES.parent / 'README.md'
+README = EXAMPLES.parent / 'README.md'
 
 # What README.md shows: nothing today, since tools/check-tutorial runs its policy.
 SHOWN = []
@@ -101,18 +104,31 @@ def all_files():
     return files
 
 
-def page_examples_told(page=PAGE):
-    return list(page_examples.examples_of(page.read_text('ascii'), page == GRAPHS))
+def page_examples_told():
+    return [example for _, example in page_examples.examples_of_pages(page_examples.REFERENCE)]
 
 
 def page_files(folder):
-    """For each table of packets on the page a folder with the policy too."""
+    """For each table of packets on the pages a folder with the policy too."""
     files = {}
     led = [example for example in page_examples_told() if isinstance(example, page_examples.Led)]
     for number, example in enumerate(led, 1):
         place = folder / f'packets-{number}'
         files[place / 'policy'] = example.policy
         files.update(files_of(place, example.policy, example.capture))
+    return files
+
+
+def line_files(folder):
+    """For each policy of the tables of lines a folder with what has to be printed."""
+    files = {}
+    tried = [example for example in page_examples_told() if isinstance(example, page_examples.Tried)]
+    for number, example in enumerate(tried, 1):
+        place = folder / f'line-{number}'
+        files[place / 'policy'] = example.policy
+        files.update(files_of(place, example.policy, None))
+        if example.told is not None:
+            files[place / 'expected' / 'plan'] = example.told.encode('ascii')
     return files
 
 
@@ -148,7 +164,7 @@ def check():
     stale = [path for path, data in files.items() if not path.is_file() or path.read_bytes() != data]
     for path in stale:
         print(f'{path.relative_to(EXAMPLES.parent)} is not what tools/make_examples.py writes')
-    faults = [(page, example, page_examples.untrue(example)) for page in (PAGE, GRAPHS) for example in page_examples_told(page)]
+    faults = [(page, example, page_examples.untrue(example)) for page, example in page_examples.examples_of_pages()]
     for page, example, due in faults:
         if due:
             print(f'{page.relative_to(EXAMPLES.parent)} says something else than the rules, for:')
@@ -162,6 +178,9 @@ def main(words):
         return 0
     if len(words) == 2 and words[0] == '--page':
         write(page_files(pathlib.Path(words[1])))
+        return 0
+    if len(words) == 2 and words[0] == '--lines':
+        write(line_files(pathlib.Path(words[1])))
         return 0
     if words == ['--check']:
         return check()
