@@ -21,7 +21,7 @@ const RAW4: u32 = 228;
 
 const RAW6: u32 = 229;
 
-/// The numbers of headers whose packets tcprewrite reads.
+/// The numbers of headers of four bytes before each packet.
 const LOOPBACK: u32 = 0;
 
 const OPEN_LOOPBACK: u32 = 108;
@@ -73,16 +73,19 @@ pub(crate) const OTHERWISE: &str =
     "capture at one Ethernet interface instead, as by `tcpdump -i eth0 -w FILE`";
 
 const COOKED_CURE: &str =
-    "this gives its packets an Ethernet header with new addresses (editcap is one of Wireshark's tools, tcprewrite one of tcpreplay's):\n  editcap -F pcap -C 2 -L -T ether {} T.pcap\n  tcprewrite --enet-dmac=02:00:00:00:00:02 --enet-smac=02:00:00:00:00:01 -i T.pcap -o NEW.pcap";
+    "this gives its packets an Ethernet header, whose addresses mean nothing (editcap is one of Wireshark's tools):\n  editcap -F pcap -C 2 -L -T ether {} NEW.pcap";
 
 const COOKED2_CURE: &str =
     "this leaves its IP packets alone, without VLAN tags (editcap is one of Wireshark's tools):\n  editcap -F pcap -C 20 -L -T rawip {} IP.pcap";
+
+const FOUR_BYTES_CURE: &str =
+    "this removes the four bytes before each IP packet (editcap is one of Wireshark's tools):\n  editcap -F pcap -C 4 -L -T rawip {} IP.pcap";
 
 const VERSION_CURE: &str =
     "this gives it the link type of IP packets of both versions (editcap is one of Wireshark's tools):\n  editcap -F pcap -T rawip {} IP.pcap";
 
 const IP_CURE: &str =
-    "this gives its packets of IPv4 an Ethernet header (tcprewrite is one of tcpreplay's tools); for those of IPv6 write ip6 in place of ip, and 86,dd in place of 08,00:\n  tcpdump -r {} -w T.pcap ip\n  tcprewrite --dlt=user --user-dlt=1 --user-dlink=02,00,00,00,00,02,02,00,00,00,00,01,08,00 -i T.pcap -o NEW.pcap";
+    "this puts an Ethernet header before its packets of IPv4 (tshark and text2pcap are Wireshark's tools); for those of IPv6 write ipv6 in place of ip, and 0x86dd in place of 0x800:\n  export TZ=UTC\n  tshark -r {} -Y ip -x -P -t ud -o 'gui.column.format:\"T\",\"%t\"' | text2pcap -q -t '%Y-%m-%d %H:%M:%S.%f' -e 0x800 -F pcap - NEW.pcap";
 
 /// The name of the file of bare IP packets in the texts above.
 const IP_FILE: &str = "IP.pcap";
@@ -310,8 +313,9 @@ pub(crate) fn say_cure(page: &mut Page, name: &str, link: u32) {
     match link {
         COOKED => tell_of(page, COOKED_CURE, name),
         COOKED2 => by_way_of_ip(page, COOKED2_CURE, name),
-        RAW4 | RAW6 => by_way_of_ip(page, VERSION_CURE, name),
-        RAW | RAW_TOO | LOOPBACK | OPEN_LOOPBACK | HDLC => tell_of(page, IP_CURE, name),
+        RAW4 | RAW6 | RAW_TOO => by_way_of_ip(page, VERSION_CURE, name),
+        LOOPBACK | OPEN_LOOPBACK | HDLC => by_way_of_ip(page, FOUR_BYTES_CURE, name),
+        RAW => tell_of(page, IP_CURE, name),
         _ => {}
     }
 }
