@@ -52,4 +52,4 @@ rule_of kind s = option_map (λ fit. record { line = s.line; allow = bytes_eq (w
 
 -- all rules of a function, in order
 abbrev pub rules_of : FunctionDecl → List RuleLine
-rules_of decl = filter_map (rule_of decl.kind) decl.settings
+rules_of decl = filter_map (rule_of decl.kind decl.line) decl.settings

@@ -144,7 +144,7 @@ fn limits_at(functions: &[FunctionDecl], place: u32) -> bool
     }
 }
 
-fn is_limiter(kind: Kind) -> bool
+pub fn is_limiter(kind: Kind) -> bool
     ensures { result ≡ is_limiter kind }
 {
     matches!(kind, Kind::Limiter)

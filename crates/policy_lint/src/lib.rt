@@ -21,16 +21,24 @@ mod covering;
 mod finding;
 mod firewalls;
 mod laws;
+mod limits;
 mod linting;
 mod nats;
+mod opposing;
+mod patterns;
 mod rule_line;
+mod spelling;
 mod telling;
+mod verdicts;
 mod versions;
 
 pub use covering::covers;
 pub use finding::Finding;
 pub use laws::{
-    addresses_keep_to_their_version, covered_chains_take_nothing, covered_rules_never_decide,
-    findings_are_true, rules_that_drop_all_deny, what_is_covered_is_met,
+    addresses_keep_to_their_version, bits_past_the_length_do_not_matter,
+    clashing_clauses_are_never_met, covered_chains_take_nothing, covered_rules_never_decide,
+    findings_are_true, rules_that_allow_drop_none, rules_that_drop_all_deny,
+    what_is_covered_is_met,
 };
 pub use linting::lint;
+pub use patterns::cut_lines;
