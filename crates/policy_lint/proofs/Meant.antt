@@ -66,7 +66,7 @@ so_told P true f so = one_told P f (so refl)
 so_told P false f so = All-nil P
 
 -- what the rules of a firewall let pass that allow alone, or deny alone
-passes_all : (decl : FunctionDecl) → default_of decl ≡ true → allows_alone (rules_of decl) ≡ true → PassesAll decl
+passes_all : (decl : FunctionDecl) → default_of decl ≡ true → list_all allows_some (rules_of decl) ≡ true → PassesAll decl
 passes_all decl allows h seen =
     ap (λ d. option_map_or (λ (r : RuleLine). r.allow) (first_met (λ (r : RuleLine). r.fit) seen (rules_of decl)) d) allows
     ∙ all_alike true allows_some (rules_of decl) seen (λ r so. (both_true r.allow (not (names_all r)) so).0) h
@@ -167,7 +167,7 @@ module _ (cuts : List Bool) (chains : List ChainPolicy) (orders : List Order) (b
         (so_told (Means cuts chains orders) (drops_none decl) (DropsNone decl.line) (λ h.
         let parts = both_true (is_firewall decl.kind) (default_of decl && allows_alone (rules_of decl)) h in
         let more = both_true (default_of decl) (allows_alone (rules_of decl)) parts.1 in
-        firewall PassesAll parts.0 (passes_all decl more.0 more.1)))
+        firewall PassesAll parts.0 (passes_all decl more.0 (both_true (are_some (rules_of decl)) (list_all allows_some (rules_of decl)) more.1).1)))
         (so_told (Means cuts chains orders) (drops_each decl) (DropsEach decl.line) (λ h.
         let parts = both_true (is_firewall decl.kind) (not (default_of decl) && denies_all (rules_of decl)) h in
         let more = both_true (not (default_of decl)) (denies_all (rules_of decl)) parts.1 in

@@ -22,13 +22,13 @@ names_all r = list_any takes_version r.fit.clauses
 abbrev pub allows_some : RuleLine → Bool
 allows_some r = r.allow && not (names_all r)
 
--- all rules allow, and none says that a version of IP is meant to pass
-abbrev pub allows_alone : List RuleLine → Bool
-allows_alone rules = list_all allows_some rules
-
 abbrev pub are_some : List RuleLine → Bool
 are_some [] = false
 are_some (r ∷ rules) = true
+
+-- there are rules, all of them allow, and none says that a version of IP is meant to pass
+abbrev pub allows_alone : List RuleLine → Bool
+allows_alone rules = are_some rules && list_all allows_some rules
 
 -- there are rules, and all of them deny
 abbrev pub denies_all : List RuleLine → Bool

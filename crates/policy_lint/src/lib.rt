@@ -34,6 +34,7 @@ mod versions;
 
 pub use covering::covers;
 pub use finding::Finding;
+pub use item_list::Items;
 pub use laws::{
     addresses_keep_to_their_version, bits_past_the_length_do_not_matter,
     clashing_clauses_are_never_met, covered_chains_take_nothing, covered_rules_never_decide,

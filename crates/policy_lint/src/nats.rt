@@ -53,7 +53,13 @@ fn push_one_nat(
 ) -> Result<(), AllocError>
     ensures { OnOk result (found.new ≡ found.old ++ told_nat before.now nat) }
 {
-    push_if(found, is_loose(nat), Finding::BitsPastLength { line: nat.inside_line })?;
+    push_if(
+        found,
+        is_loose(nat),
+        Finding::BitsPastLength {
+            line: nat.inside_line,
+        },
+    )?;
     push_one(found, inside_of(nat))?;
     push_one(found, shared_of(before, nat))
 }

@@ -16,7 +16,10 @@ use std::alloc::{AllocError, Global};
 pub fn cut_lines(alloc: Global, text: &[u8]) -> Result<Items<bool>, AllocError>
     ensures { IfOk result (λ cuts. cuts ≡ cut_lines text.now) }
 {
-    let cuts = text.split(|b| *b == b'\n').map(|line| is_cut(line)).collect(alloc)?;
+    let cuts = text
+        .split(|b| *b == b'\n')
+        .map(|line| is_cut(line))
+        .collect(alloc)?;
     Ok(Items::new(cuts))
 }
 

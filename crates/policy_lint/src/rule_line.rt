@@ -93,7 +93,12 @@ fn rule_of(
     let line = setting.line;
     let allow = word_of(words, 1) == b"allow".as_slice();
     let fit = rule_fit(alloc, kind, words)?;
-    Ok(fit.map(|fit| RuleLine { line, owner, allow, fit }))
+    Ok(fit.map(|fit| RuleLine {
+        line,
+        owner,
+        allow,
+        fit,
+    }))
 }
 
 /// A word of a line, none past its end.

@@ -32,7 +32,11 @@ fn push_rule(found: &mut Items<Finding>, kind: Kind, rule: &RuleLine) -> Result<
 {
     let line = rule.line;
     push_fit(found, line, &rule.fit)?;
-    push_if(found, marks_ipv6(kind, &rule.fit), Finding::MarksIpv6 { line })
+    push_if(
+        found,
+        marks_ipv6(kind, &rule.fit),
+        Finding::MarksIpv6 { line },
+    )
 }
 
 /// Adds what is odd in the clauses of a line.

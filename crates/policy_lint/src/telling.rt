@@ -23,43 +23,43 @@ const DENIES_IPV6_ALONE: &str =
     "this firewall denies by addresses of IPv6 alone, and no firewall of its chain names one of IPv4: IPv4 packets meet none of these rules\n  add `rule deny src 0.0.0.0/0` to drop them, or `rule allow src 0.0.0.0/0` to say that they pass; if this firewall has 256 rules, say it in a second firewall";
 
 const PUBLIC_INSIDE: &str =
-    "this public address is one of those inside, by line {}: a machine that has it can't be told from the nat\n  take an address that isn't inside, or a prefix with more bits";
+    "this public address is one of those inside, by line {}: a machine that has it can't be distinguished from the nat\n  take an address that isn't inside, or a prefix with more bits";
 
 const SHARED_PORTS: &str =
     "the nat of line {} uses some of these ports of the same public address: a packet that comes back may belong to either\n  part the ports, as 40000-44999 and 45000-49999, or give each nat an address of its own";
 
 const CLAUSES_CLASH: &str =
-    "no packet meets this line: two of its clauses exclude each other, as ports and a protocol without ports do, or addresses of IPv4 and of IPv6\n  take one of the two clauses away, or write a line for each";
+    "no packet meets this line: two of its clauses exclude each other, such as ports and a protocol without ports, or addresses of IPv4 and of IPv6\n  delete one of the two clauses, or write a line for each";
 
 const BITS_PAST_LENGTH: &str =
-    "this prefix has bits past its length that aren't 0, and they don't count: 10.1.2.3/8 means 10.0.0.0/8\n  write the address with these bits 0, or the length that you mean: 10.1.2.3 alone is one address";
+    "bits of a prefix on this line past its length aren't 0, and they don't count: 10.1.2.3/8 means 10.0.0.0/8\n  write these bits as 0, or the length that you mean: for one address leave the length out";
 
 const MARKS_IPV6: &str =
-    "this rule marks nothing: it asks for an address of IPv6, and a packet of IPv6 has no type of service\n  delete it, or ask for addresses of IPv4";
+    "this rule marks no packet: it asks for an address of IPv6, and a packet of IPv6 has no type of service\n  delete it, or ask for addresses of IPv4";
 
 const QUOTED_PATTERN: &str =
-    "the quotes are part of this pattern: data without them do not have it\n  write the word without quotes; a pattern with a blank is written in hexadecimal digits, as `rule hex 61 20 62` without the blanks";
+    "the quotes are part of this pattern: it is found only in data that have the quotes too\n  write the word without quotes; for a pattern that has blanks or quotes, use `rule hex ..`";
 
 const COMMA_PATTERN: &str =
-    "the comma is part of this pattern: data without it do not have it\n  write the word without the comma, and each pattern on a line of its own; if you mean the comma, write the pattern as `rule hex ..`";
+    "the comma is part of this pattern: it is found only in data that have the comma too\n  write the word without the comma, and each pattern as a rule of its own; if you mean the comma, use `rule hex ..`";
 
 const CUT_PATTERN: &str =
-    "this pattern ends at the `#`: what follows is a comment\n  write the pattern as `rule hex ..`, where `#` is 23; if you mean a comment, put a blank before it";
+    "this pattern ends before the `#`: the rest of the line is a comment\n  for a pattern that has `#`, use `rule hex ..`, where `#` is 23; if you mean a comment, put a blank before it";
 
 const GLOB_PATTERN: &str =
-    "a `*` is part of this pattern: it is looked for as it is written, and stands for nothing else\n  write the word without `*`, for a pattern is found wherever it is in the data; if you mean the `*`, write the pattern as `rule hex ..`";
+    "the `*` is part of this pattern: it is found only in data that have the `*` too\n  write the word without `*`: a pattern is found anywhere in the data; if you mean the `*`, use `rule hex ..`";
 
 const REGEX_PATTERN: &str =
-    "this pattern is no regular expression: it is looked for as it is written, with its slashes and signs\n  write the word without them, and one rule for each spelling; if you mean the slashes, write the pattern as `rule hex ..`";
+    "this is no regular expression: the pattern is found only in data that have the slashes and signs too\n  write the word without slashes, and a rule for each spelling; if you mean the slashes, use `rule hex ..`";
 
 const DROPS_NONE: &str =
-    "this firewall drops nothing: its rules allow, and what meets none of them is allowed too\n  add `set default deny` to drop the rest, or delete the firewall";
+    "this firewall drops no packet: its rules allow, and what meets none of them is allowed too\n  add `set default deny` to drop the rest, or delete the firewall";
 
 const DROPS_EACH: &str =
-    "this firewall drops every packet: its rules deny, and what meets none of them is denied too\n  delete `set default deny` to let the rest pass, or add `rule allow ..` for what is meant to pass";
+    "no packet passes this firewall: its rules deny, and what meets none of them is denied too\n  delete `set default deny` to let the rest pass, or add `rule allow ..` for what is meant to pass";
 
 const SMALL_BURST: &str =
-    "this limiter drops each packet that is longer than its burst, at any rate: the usual longest has 1,500 bytes\n  set a burst of 1500 or more; twice that and more lets a machine send without gaps";
+    "this limiter drops every packet that is longer than its burst, at any rate: a usual packet has up to 1,500 bytes\n  set a burst of at least 1500";
 
 impl Finding {
     /// The line that it speaks of.

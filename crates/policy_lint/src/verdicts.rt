@@ -44,6 +44,12 @@ fn drops_each(decl: &FunctionDecl, rules: &[RuleLine]) -> bool
 fn allows_alone(rules: &[RuleLine]) -> bool
     ensures { result ≡ allows_alone rules.now }
 {
+    are_some(rules) && allow(rules)
+}
+
+fn allow(rules: &[RuleLine]) -> bool
+    ensures { result ≡ list_all allows_some rules.now }
+{
     rules.iter().all(|rule| allows_some(rule))
 }
 

@@ -81,11 +81,7 @@ fn keep_firewall(
     }
 }
 
-fn told_alone4(
-    before: &[ChainPolicy],
-    chain: &ChainPolicy,
-    rules: &[RuleLine],
-) -> Option<Finding>
+fn told_alone4(before: &[ChainPolicy], chain: &ChainPolicy, rules: &[RuleLine]) -> Option<Finding>
     ensures { result ≡ told_version Ipv4 (λ line. DeniesIpv4Alone line) before.now chain.now rules.now }
 {
     if is_alone(Version::Ipv4, before, chain, rules) {
@@ -96,11 +92,7 @@ fn told_alone4(
     }
 }
 
-fn told_alone6(
-    before: &[ChainPolicy],
-    chain: &ChainPolicy,
-    rules: &[RuleLine],
-) -> Option<Finding>
+fn told_alone6(before: &[ChainPolicy], chain: &ChainPolicy, rules: &[RuleLine]) -> Option<Finding>
     ensures { result ≡ told_version Ipv6 (λ line. DeniesIpv6Alone line) before.now chain.now rules.now }
 {
     if is_alone(Version::Ipv6, before, chain, rules) {
