@@ -1,18 +1,20 @@
 //! What is odd in policies without fault.
 use policy_judge::judge;
-use policy_lint::{Finding, lint};
+use policy_lint::{Finding, cut_lines, lint};
 use std::alloc::Global;
 use std::process::Abort;
 
 // In the policy this is found, and nothing else.
 fn finds(rt: &impl Abort, alloc: Global, text: &str, due: &[Finding]) {
     assert!(rt; text.len() < 1000);
-    match judge(alloc, text.as_bytes()) {
-        Ok(judged) => match lint(alloc, &judged.policy, judged.orders.as_slice()) {
-            Ok(found) => assert!(rt; found.as_slice() == due),
-            Err(_) => rt.abort(),
-        },
-        Err(_) => rt.abort(),
+    match (judge(alloc, text.as_bytes()), cut_lines(alloc, text.as_bytes())) {
+        (Ok(judged), Ok(cuts)) => {
+            match lint(alloc, cuts.as_slice(), &judged.policy, judged.orders.as_slice()) {
+                Ok(found) => assert!(rt; found.as_slice() == due),
+                Err(_) => rt.abort(),
+            }
+        }
+        _ => rt.abort(),
     }
 }
 
@@ -40,7 +42,7 @@ fn odd_functions_are_found(rt: HostRuntime) {
     let both = "nfp 1\nchain a\nfn f firewall\nrule deny src 10.0.0.0/8\nrule allow src ::/0\n";
     finds(&rt, alloc, both, &[]);
     let limited =
-        "nfp 1\nchain a\nfn n nat\nset inside 10.0.0.0/8\nset public 10.0.0.1\nset ports 1-9\nfn l limiter\nset rate 9\nset burst 9\n";
+        "nfp 1\nchain a\nfn n nat\nset inside 10.0.0.0/8\nset public 10.0.0.1\nset ports 1-9\nfn l limiter\nset rate 9\nset burst 9000\n";
     let behind = Finding::LimiterBehind { line: 7, by: 3 };
     let inside = Finding::PublicInside { line: 5, inside: 4 };
     finds(&rt, alloc, limited, &[behind, inside]);
@@ -52,6 +54,72 @@ fn odd_functions_are_found(rt: HostRuntime) {
         shared,
         &[Finding::SharedPorts { line: 10, by: 6 }],
     );
+}
+
+#[test]
+fn one_finding_comes_for_all_firewalls_of_a_chain(rt: HostRuntime) {
+    let alloc = rt.alloc();
+    let two =
+        "nfp 1\nchain a\nfn f firewall\nrule deny src 10.0.0.0/8\nfn g firewall\nrule deny src 192.0.2.1\n";
+    finds(&rt, alloc, two, &[Finding::DeniesIpv4Alone { line: 3 }]);
+    let second =
+        "nfp 1\nchain a\nfn f firewall\nrule deny src 10.0.0.0/8\nfn g firewall\nrule deny src ::/0\n";
+    finds(&rt, alloc, second, &[]);
+    let rest =
+        "nfp 1\nchain a\nfn f firewall\nrule deny src 10.0.0.0/8\nfn g firewall\nset default deny\nrule allow proto tcp\n";
+    finds(&rt, alloc, rest, &[]);
+}
+
+#[test]
+fn firewalls_that_drop_all_or_nothing_are_found(rt: HostRuntime) {
+    let alloc = rt.alloc();
+    let allows = "nfp 1\nchain a\nfn f firewall\nrule allow proto tcp\n";
+    finds(&rt, alloc, allows, &[Finding::DropsNone { line: 3 }]);
+    let says = "nfp 1\nchain a\nfn f firewall\nrule allow src ::/0\n";
+    finds(&rt, alloc, says, &[]);
+    let denies = "nfp 1\nchain a\nfn f firewall\nset default deny\nrule deny proto tcp\n";
+    finds(&rt, alloc, denies, &[Finding::DropsEach { line: 3 }]);
+}
+
+#[test]
+fn odd_clauses_are_found(rt: HostRuntime) {
+    let alloc = rt.alloc();
+    let ports = "nfp 1\nchain a\nfn f firewall\nrule deny proto 1 dport 53\n";
+    finds(&rt, alloc, ports, &[Finding::ClausesClash { line: 4 }]);
+    let versions = "nfp 1\nchain a match src 10.0.0.1 dst ::1\n";
+    finds(&rt, alloc, versions, &[Finding::ClausesClash { line: 2 }]);
+    let bits = "nfp 1\nchain a match src 10.1.2.3/8\nfn t tagger\nrule vid 7 pcp 0 src ::1/64\n";
+    let chain = Finding::BitsPastLength { line: 2 };
+    finds(
+        &rt,
+        alloc,
+        bits,
+        &[chain, Finding::BitsPastLength { line: 4 }],
+    );
+    let marks = "nfp 1\nchain a\nfn m marker\nrule tos 8 dst ::1\n";
+    finds(&rt, alloc, marks, &[Finding::MarksIpv6 { line: 4 }]);
+    let burst = "nfp 1\nchain a\nfn l limiter\nset rate 9\nset burst 1499\n";
+    finds(&rt, alloc, burst, &[Finding::SmallBurst { line: 5 }]);
+}
+
+#[test]
+fn odd_patterns_are_found(rt: HostRuntime) {
+    let alloc = rt.alloc();
+    let patterns = "nfp 1\nchain a\nfn s signature\nrule text \"a\"\nrule text a,\nrule text a#b\nrule text *a\nrule text /a/i\n";
+    finds(
+        &rt,
+        alloc,
+        patterns,
+        &[
+            Finding::QuotedPattern { line: 4 },
+            Finding::CommaPattern { line: 5 },
+            Finding::CutPattern { line: 6 },
+            Finding::GlobPattern { line: 7 },
+            Finding::RegexPattern { line: 8 },
+        ],
+    );
+    let plain = "nfp 1\nchain a\nfn s signature\nrule text a # b\nrule text a/b\nrule hex 2c#\n";
+    finds(&rt, alloc, plain, &[Finding::CutPattern { line: 6 }]);
 }
 
 #[test]

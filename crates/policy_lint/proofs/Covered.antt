@@ -25,7 +25,7 @@ both : (a b : Bool) → a ≡ true → b ≡ true → (a && b) ≡ true
 both true b first second = second
 both false b first second = absurd cc
 
-right_of : (a b : Bool) → (a || b) ≡ true → a ≡ false → b ≡ true
+pub right_of : (a b : Bool) → (a || b) ≡ true → a ≡ false → b ≡ true
 right_of true b h fails = absurd cc
 right_of false b h fails = h
 
