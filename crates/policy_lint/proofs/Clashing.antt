@@ -62,8 +62,8 @@ not_apart width p b q n a h within other = by (nat_le n b) refl
 
 -- a value that is there can't meet both
 on_both : (f g : ℕ → Bool) (o : Option ℕ) → ((a : ℕ) → f a ≡ true → g a ≡ true → ⊥) → option_map_or f o false ≡ true → option_map_or g o false ≡ true → ⊥
-on_both f g None no met other = cc
-on_both f g (Some a) no met other = no a met other
+on_both f g None never met other = cc
+on_both f g (Some a) never met other = never a met other
 
 -- Ranges.
 not_parted : (low high least greatest port : ℕ) → are_parted low high least greatest ≡ true → is_between low high port ≡ true → is_between least greatest port ≡ true → ⊥

@@ -54,14 +54,11 @@ all_denied default (r ∷ rules) seen h = by r.allow (is_empty r.fit.clauses) re
 pub all_alike : (value : Bool) (is : RuleLine → Bool) (rules : List RuleLine) (seen : Seen) → ((r : RuleLine) → is r ≡ true → r.allow ≡ value) → list_all is rules ≡ true →
     option_map_or (λ (r : RuleLine). r.allow) (first_met (λ (r : RuleLine). r.fit) seen rules) value ≡ value
 all_alike value is [] seen so h = refl
-all_alike value is (r ∷ rules) seen so h = by (is_fitting r.fit seen)
+all_alike value is (r ∷ rules) seen so h = let parts = both_true (is r) (list_all is rules) h in by (is_fitting r.fit seen) (so r parts.0) (all_alike value is rules seen so parts.1)
   where
-    parts : (is r ≡ true) × (list_all is rules ≡ true)
-    parts = both_true (is r) (list_all is rules) h
-
-    by : (met : Bool) → decided r rules seen value met ≡ value
-    by true = so r parts.0
-    by false = all_alike value is rules seen so parts.1
+    by : (met : Bool) → r.allow ≡ value → option_map_or (λ (x : RuleLine). x.allow) (first_met (λ (x : RuleLine). x.fit) seen rules) value ≡ value → decided r rules seen value met ≡ value
+    by true first later = first
+    by false first later = later
 
 pub all_allowed : (rules : List RuleLine) (seen : Seen) → list_all (λ (r : RuleLine). r.allow) rules ≡ true →
     option_map_or (λ (r : RuleLine). r.allow) (first_met (λ (r : RuleLine). r.fit) seen rules) true ≡ true

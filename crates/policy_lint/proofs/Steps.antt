@@ -128,3 +128,8 @@ rules_more functions i d t rules next so inside is more =
 -- the order of the chain at this place is that of the chain behind those before it
 pub told_here : (cuts : List Bool) (orders : List Order) (chains : List ChainPolicy) (chain : ChainPolicy) (order : List ℕ) (i : ℕ) → i < length chains → order ≡ order_at orders i → told_in cuts order (take i chains) chain ≡ told_at cuts orders (take i chains) chain
 told_here cuts orders chains chain order i inside is = ap (λ o. told_in cuts o (take i chains) chain) (is ∙ ap (order_at orders) (sym (length-take-le i chains (omega arith))))
+
+-- two maps, one after the other
+pub map_twice : {A B C : Type 0} (f : B → C) (g : A → B) (xs : List A) → map (λ x. f (g x)) xs ≡ map f (map g xs)
+map_twice f g [] = refl
+map_twice f g (x ∷ xs) = ap (λ l. f (g x) ∷ l) (map_twice f g xs)

@@ -62,9 +62,13 @@ is_pattern_line kind s = has_patterns kind && bytes_eq (word_of s.words 0) (code
 abbrev pub text_of : Kind → Setting → List ℕ
 text_of kind s = if is_pattern_line kind s && bytes_eq (word_of s.words 1) (codes "text") then word_of s.words 2 else []
 
+-- a place right after a word
+abbrev pub is_after_word : List ℕ → ℕ → Bool
+is_after_word line place = nat_lt 0 place && not (is_blank (byte_at line (place - 1)))
+
 -- a line has a comment that begins right after a word
 abbrev pub is_cut : List ℕ → Bool
-is_cut line = option_map_or (λ place. nat_lt 0 place && not (is_blank (byte_at line (place - 1)))) (position is_comment_sign line) false
+is_cut line = option_map_or (is_after_word line) (position is_comment_sign line) false
 
 -- whether they have, line by line
 abbrev pub cut_lines : List ℕ → List Bool

@@ -1,8 +1,8 @@
 //! Patterns that are hardly spelled as they are meant.
-ghost use Rattle.std.specs.Prelude.{◌≡◌, ◌++◌, IfOk, OnOk};
-ghost use Rattle.std.specs.List.{list_any};
-ghost use Rattle.policy_lint.specs.Patterns.{byte_at, from_end, is_quote, is_quoted, ends_in_comma, is_glob, is_sign, ends_as_regex, is_regex, has_patterns, is_pattern_line, text_of, is_cut, cut_lines, is_cut_at, told_pattern, told_patterns};
-ghost use Rattle.policy_text.specs.Lines.{is_blank};
+ghost use Rattle.std.specs.Prelude.{◌≡◌, ◌++◌, ◌==◌, map, position, IfOk, OnOk};
+ghost use Rattle.std.specs.List.{list_any, slice_split};
+ghost use Rattle.policy_lint.specs.Patterns.{byte_at, from_end, is_quote, is_quoted, ends_in_comma, is_glob, is_sign, ends_as_regex, is_regex, has_patterns, is_pattern_line, text_of, is_after_word, is_cut, cut_lines, is_cut_at, told_pattern, told_patterns};
+ghost use Rattle.policy_text.specs.Lines.{is_blank, is_comment_sign};
 
 use crate::asking::push_if;
 use crate::finding::Finding;
@@ -16,20 +16,43 @@ use std::alloc::{AllocError, Global};
 pub fn cut_lines(alloc: Global, text: &[u8]) -> Result<Items<bool>, AllocError>
     ensures { IfOk result (λ cuts. cuts ≡ cut_lines text.now) }
 {
-    let cuts = text
-        .split(|b| *b == b'\n')
-        .map(|line| is_cut(line))
-        .collect(alloc)?;
+    let lines = lines_of(alloc, text)?;
+    let cuts = cuts_of(alloc, &lines)?;
     Ok(Items::new(cuts))
+}
+
+fn lines_of(alloc: Global, text: &[u8]) -> Result<Vec<&[u8]>, AllocError>
+    ensures { IfOk result (λ lines. map (λ line. line.now) lines.items ≡ slice_split (λ b. b == 10) text.now) }
+{
+    text.split(|b| *b == b'\n').collect(alloc)
+}
+
+fn cuts_of(alloc: Global, lines: &[&[u8]]) -> Result<Vec<bool>, AllocError>
+    ensures { IfOk result (λ cuts. cuts.items ≡ map (λ line. is_cut line.now) lines.now) }
+{
+    lines.iter().map(|line| is_cut(line)).collect(alloc)
 }
 
 fn is_cut(line: &[u8]) -> bool
     ensures { result ≡ is_cut line.now }
 {
-    match line.iter().position(|b| *b == b'#') {
-        Some(place) => place > 0 && !is_blank(byte_at(line, place - 1)),
+    match sign_in(line) {
+        Some(place) => is_after_word(line, place),
         None => false,
     }
+}
+
+// Where a comment begins.
+fn sign_in(line: &[u8]) -> Option<usize>
+    ensures { result ≡ position is_comment_sign line.now }
+{
+    line.iter().position(|b| *b == b'#')
+}
+
+fn is_after_word(line: &[u8], place: usize) -> bool
+    ensures { result ≡ is_after_word line.now place }
+{
+    place > 0 && !is_blank(byte_at(line, place.saturating_sub(1)))
 }
 
 fn is_blank(b: u8) -> bool
