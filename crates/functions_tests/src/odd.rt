@@ -7,9 +7,17 @@ use std::process::Abort;
 // In the policy this is found, and nothing else.
 fn finds(rt: &impl Abort, alloc: Global, text: &str, due: &[Finding]) {
     assert!(rt; text.len() < 1000);
-    match (judge(alloc, text.as_bytes()), cut_lines(alloc, text.as_bytes())) {
+    match (
+        judge(alloc, text.as_bytes()),
+        cut_lines(alloc, text.as_bytes()),
+    ) {
         (Ok(judged), Ok(cuts)) => {
-            match lint(alloc, cuts.as_slice(), &judged.policy, judged.orders.as_slice()) {
+            match lint(
+                alloc,
+                cuts.as_slice(),
+                &judged.policy,
+                judged.orders.as_slice(),
+            ) {
                 Ok(found) => assert!(rt; found.as_slice() == due),
                 Err(_) => rt.abort(),
             }
@@ -105,7 +113,8 @@ fn odd_clauses_are_found(rt: HostRuntime) {
 #[test]
 fn odd_patterns_are_found(rt: HostRuntime) {
     let alloc = rt.alloc();
-    let patterns = "nfp 1\nchain a\nfn s signature\nrule text \"a\"\nrule text a,\nrule text a#b\nrule text *a\nrule text /a/i\n";
+    let patterns =
+        "nfp 1\nchain a\nfn s signature\nrule text \"a\"\nrule text a,\nrule text a#b\nrule text *a\nrule text /a/i\n";
     finds(
         &rt,
         alloc,

@@ -54,6 +54,11 @@ fn find(alloc: Global, text: &[u8]) -> Option<Items<Finding>> {
     let Ok(cuts) = cut_lines(alloc, text) else {
         return None;
     };
-    let found = policy_lint::lint(alloc, cuts.as_slice(), &judged.policy, judged.orders.as_slice());
+    let found = policy_lint::lint(
+        alloc,
+        cuts.as_slice(),
+        &judged.policy,
+        judged.orders.as_slice(),
+    );
     found.ok()
 }
