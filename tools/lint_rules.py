@@ -19,8 +19,14 @@ None of it is a fault. Each finding has a name, the line that it speaks of, and 
     denies-ipv6-alone  the same the other way round
     never-reached      no packet reaches this function: the other, before it in the chain, drops each
     limiter-behind     this limiter counts by the sources that the other function writes
+    match-excludes     no packet that the other, which is the chain's line, takes meets the clauses of this rule
+    source-rewritten   the other, a nat, rewrites the sources that this rule asks for
+    vip-excluded       no packet that the other, which is the chain's line, takes is for this virtual address
+    redacted-before    the other, a redactor, overwrites this pattern of a signature
+    hidden-in-tunnel   in the tunnel of the other, an encap, no packet has the addresses that this rule asks for
     public-inside      the public address lies in the prefix inside
     shared-ports       a nat has the public address of the other, and at least one port
+    limiter-apart      this chain has limiters, and the packets that it takes miss the nat whose prefix inside the other is
 """
 
 import ipaddress
@@ -250,6 +256,80 @@ def limited(walk):
             yield Finding('limiter-behind', function.line, writer.line)
 
 
+# Functions by what is before them in their chain.
+
+
+def writes(function, lead):
+    """Does the function write what a clause with this word asks for?"""
+    return lead in policy_rules.KINDS[function.kind][1].split()
+
+
+def first(things):
+    return next(iter(things), None)
+
+
+def settings_of(function):
+    return {setting.lead[1]: setting for setting in policy_rules.read_settings(function) if setting.lead[0] == 'set'}
+
+
+def rewritten(walk, rule):
+    """The first nat of these that rewrites the sources that a rule asks for."""
+    asked = rule.clauses.get('src')
+    for function in walk if asked and asked.version == 4 else ():
+        if function.kind == 'nat':
+            said = settings_of(function)
+            if asked.subnet_of(said['inside'].value) and said['public'].value not in asked:
+                return function
+    return None
+
+
+def hidden(encap, rule):
+    """Is there an address of IPv4 among those that the rule asks for that isn't one of the tunnel?"""
+    ends = {'src': 'entry', 'dst': 'exit'}
+    said = settings_of(encap)
+    return any(value.version == 4 and said[ends[lead]].value not in value for lead, value in rule.clauses.items() if lead in ends)
+
+
+def odd_plain(chain, before, function):
+    """What is odd in a function after these, none of which rewrites packets whole."""
+    kept = {lead: value for lead, value in chain.clauses.items() if not any(writes(other, lead) for other in before)}
+    for rule in rules_of(function):
+        if exclude(kept, rule.clauses):
+            yield Finding('match-excludes', rule.line, chain.line)
+        nat = rewritten(before, rule)
+        if nat:
+            yield Finding('source-rewritten', rule.line, nat.line)
+    if function.kind == 'balancer':
+        vip = settings_of(function)['vip']
+        if exclude(kept, {'dst': ipaddress.ip_network(vip.value)}):
+            yield Finding('vip-excluded', vip.number, chain.line)
+    for line, words in function.settings if function.kind == 'signature' else ():
+        redactor = first(other for other in before if other.kind == 'redactor' and words[1:] in [its[1:] for _, its in other.settings])
+        if redactor and words[1] == 'text' and 'x' not in words[2]:
+            yield Finding('redacted-before', line, redactor.line)
+
+
+def odd_by_order(chain, walk):
+    """What is odd in the functions of a chain, in its order, by what is before them."""
+    for at, function in enumerate(walk):
+        whole = first(other for other in reversed(walk[:at]) if policy_rules.is_whole(other.kind))
+        if not whole:
+            yield from odd_plain(chain, walk[:at], function)
+        elif whole.kind == 'encap':
+            yield from (Finding('hidden-in-tunnel', rule.line, whole.line) for rule in rules_of(function) if hidden(whole, rule))
+
+
+def limiters_apart(chains):
+    """Chains of limiters that take packets from the inside of a nat in a chain after them."""
+    for at, chain in enumerate(chains):
+        for inside, _, _ in nats_of([chain]):
+            for other in chains[:at]:
+                kinds, asked = {function.kind for function in other.functions}, other.clauses.get('src')
+                if 'limiter' in kinds <= {'limiter', 'monitor'} and asked and asked.version == 4 and asked.overlaps(inside.value):
+                    yield Finding('limiter-apart', other.line, inside.number)
+                    break
+
+
 def nats_of(chains):
     for chain in chains:
         for function in chain.functions:
@@ -285,5 +365,5 @@ def findings(text):
         found += odd_clauses(chain.line, chain.clauses, said[chain.line])
         for function in chain.functions:
             found += odd_function(function, cut)
-        found += [*one_version(chains, at), *unreached(walk), *limited(walk)]
-    return found + list(odd_nats(chains))
+        found += [*one_version(chains, at), *unreached(walk), *limited(walk), *odd_by_order(chain, walk)]
+    return [*found, *odd_nats(chains), *limiters_apart(chains)]

@@ -132,6 +132,54 @@ fn odd_patterns_are_found(rt: HostRuntime) {
 }
 
 #[test]
+fn what_the_match_excludes_is_found(rt: HostRuntime) {
+    let alloc = rt.alloc();
+    let tags = "nfp 1\nchain a match tag 10\nfn f firewall\nrule deny tag 20\n";
+    finds(
+        &rt,
+        alloc,
+        tags,
+        &[Finding::MatchExcludes { line: 4, by: 2 }],
+    );
+    let tagged =
+        "nfp 1\nchain a match tag 10\nfn t tagger\nrule vid 20 pcp 0\nfn f firewall\nrule deny tag 20\n";
+    finds(&rt, alloc, tagged, &[]);
+    let vip =
+        "nfp 1\nchain a match dst 192.0.2.0/24\nfn b balancer\nset vip 10.0.0.1\nrule backend 10.0.0.2\n";
+    finds(&rt, alloc, vip, &[Finding::VipExcluded { line: 4, by: 2 }]);
+}
+
+#[test]
+fn what_was_rewritten_before_is_found(rt: HostRuntime) {
+    let alloc = rt.alloc();
+    let nat =
+        "nfp 1\nchain a\nfn n nat\nset inside 10.0.0.0/8\nset public 192.0.2.1\nset ports 1-9\nfn m marker\nrule tos 8 src 10.1.0.0/16\nrule tos 9 src 192.0.2.1\n";
+    let rewritten = Finding::SourceRewritten { line: 8, by: 3 };
+    finds(&rt, alloc, nat, &[rewritten]);
+    let tunnel =
+        "nfp 1\nchain a\nfn e encap\nset entry 192.0.2.1\nset exit 192.0.2.2\nset ttl 64\nfn m marker\nrule tos 8 src 10.1.0.0/16\nrule tos 9 dst 192.0.2.2\n";
+    let hidden = Finding::HiddenInTunnel { line: 8, by: 3 };
+    finds(&rt, alloc, tunnel, &[hidden]);
+    let pattern =
+        "nfp 1\nchain a\nfn r redactor\nrule text ab\nrule text xy\nfn s signature\nrule text xy\nrule text ab\n";
+    let redacted = Finding::RedactedBefore { line: 8, by: 3 };
+    finds(&rt, alloc, pattern, &[redacted]);
+}
+
+#[test]
+fn limiters_beside_a_nat_are_found(rt: HostRuntime) {
+    let alloc = rt.alloc();
+    let apart =
+        "nfp 1\nchain a match src 10.1.0.0/16\nfn l limiter\nset rate 9\nset burst 9000\nchain b\nfn n nat\nset inside 10.0.0.0/8\nset public 192.0.2.1\nset ports 1-9\n";
+    finds(
+        &rt,
+        alloc,
+        apart,
+        &[Finding::LimiterApart { line: 2, by: 8 }],
+    );
+}
+
+#[test]
 fn a_finding_is_told(rt: HostRuntime) {
     let taken = Finding::ChainTaken { line: 3, by: 2 };
     assert_eq!(rt; taken.line(), 3);

@@ -1,38 +1,45 @@
 -- Each finding means what it says.
 use Rattle.std.proofs.Common.{◌≡◌, ◌∙◌, ℕ, List, [], ◌∷◌, ◌++◌, length, map, Bool, true, false, refl, sym, ap, subst, append_assoc, Some, None, cond, inl, inr}
-use Rattle.std.specs.Prelude.{◌&&◌, ◌==◌, nat_le, nat_lt, not, find, Option, All, slice_get, if◌then◌else◌}
+use Rattle.std.specs.Prelude.{◌&&◌, ◌==◌, ◌⊎◌, nat_le, nat_lt, not, find, filter_map, reverse, codes, Option, All, slice_get, if◌then◌else◌}
 use Rattle.std.specs.List.{list_all, list_any}
 use Rattle.std.specs.Option.{option_map, option_map_or, option_to_list}
 use Rattle.std.proofs.lemmas.Bool.{eqb-true, leb-true, ltb-true}
 use Rattle.std.proofs.lemmas.List.Elements.{All-nil, All-cons, All-append}
 use Rattle.function_lines.specs.Rules.{first_met}
-use Rattle.policy_text.specs.Meeting.{is_within}
+use Rattle.policy_text.specs.Addresses6.{address6_of}
+use Rattle.policy_text.specs.Meeting.{is_within, is_met, is_fitting}
+use Rattle.policy_text.specs.Values.{address_of}
+use Rattle.policy_text.specs.declared.clause.Clause.{Clause}
+use Rattle.policy_text.specs.declared.clause.Match.{Match}
+use Rattle.policy_text.specs.declared.seen.Seen.{Seen}
 use Rattle.policy_text.specs.declared.policy.ChainPolicy.{ChainPolicy}
 use Rattle.policy_text.specs.declared.policy.FunctionDecl.{FunctionDecl}
 use Rattle.policy_text.specs.declared.policy.Setting.{Setting}
 use Rattle.policy_check.specs.declared.fault.Order.{Order}
 use Rattle.policy_lint.specs.declared.finding.Finding.{Finding}
-use Rattle.policy_lint.specs.declared.finding.Finding.TheVariants.{LimiterBehind, DeniesIpv4Alone, DeniesIpv6Alone, PublicInside, SharedPorts, ClausesClash, BitsPastLength, MarksIpv6, QuotedPattern, CommaPattern, CutPattern, GlobPattern, RegexPattern, DropsNone, DropsEach, SmallBurst}
+use Rattle.policy_lint.specs.declared.finding.Finding.TheVariants.{LimiterBehind, DeniesIpv4Alone, DeniesIpv6Alone, PublicInside, SharedPorts, ClausesClash, BitsPastLength, MarksIpv6, QuotedPattern, CommaPattern, CutPattern, GlobPattern, RegexPattern, DropsNone, DropsEach, SmallBurst, MatchExcludes, VipExcluded, SourceRewritten, HiddenInTunnel, RedactedBefore, LimiterApart}
 use Rattle.policy_lint.specs.declared.nats.NatLines.{NatLines}
 use Rattle.policy_lint.specs.declared.rule_line.RuleLine.{RuleLine}
 use Rattle.policy_lint.specs.declared.versions.Version.{Version}
 use Rattle.policy_lint.specs.declared.versions.Version.TheVariants.{Ipv4, Ipv6}
+use Rattle.policy_lint.specs.Apart.{takes_from, told_apart, apart_in, apart}
 use Rattle.policy_lint.specs.Behind.{is_at, line_at, told_unreached, unreached, writes_source, limits, is_whole, told_behind, limited_behind}
 use Rattle.policy_lint.specs.Findings.{chain_asking, rule_asking, told_function, told_functions, order_at, told_at, findings}
 use Rattle.policy_lint.specs.Firewalls.{default_of, is_firewall, drops_by, drops_all}
 use Rattle.policy_lint.specs.Gathering.{Asking, told_if, gathered, cover_of, told_of, covered}
 use Rattle.policy_lint.specs.Implying.{covers}
 use Rattle.policy_lint.specs.Limits.{burst_of, told_burst, told_limiter}
-use Rattle.policy_lint.specs.Meaning.{IsOne, Follows, IsCovered, StandsBehind, DeniesAlone, IsFunction, IsRule, IsSetting, IsFirewall, IsSmallBurst, MeetsNone, HasPattern, PassesAll, PassesNone, Means}
-use Rattle.policy_lint.specs.Nats.{nats_of, inside_of, shares, shared_of, is_loose, told_nat, told_nats}
-use Rattle.policy_lint.specs.Opposing.{clash}
+use Rattle.policy_lint.specs.Meaning.{IsOne, Follows, IsCovered, StandsBehind, DeniesAlone, IsFunction, IsRule, IsSetting, IsFirewall, IsSmallBurst, MeetsNone, HasPattern, PassesAll, PassesNone, IsPlaced, IsExcluded, IsRuleExcluded, IsVipExcluded, IsBefore, IsRuleRewritten, IsRuleHidden, IsRedacted, IsLimiterApart, Means}
+use Rattle.policy_lint.specs.Nats.{value_of, nat_of, nats_of, inside_of, shares, shared_of, is_loose, told_nat, told_nats}
+use Rattle.policy_lint.specs.Opposing.{opposes, clash}
 use Rattle.policy_lint.specs.Patterns.{is_quoted, ends_in_comma, is_glob, is_regex, is_pattern_line, text_of, is_cut_at, told_pattern, told_patterns}
 use Rattle.policy_lint.specs.Rules.{rules_of}
 use Rattle.policy_lint.specs.Spelling.{is_loose_fit, told_fit, is_marker, marks_ipv6, told_rule, told_rules}
 use Rattle.policy_lint.specs.Verdicts.{names_all, allows_some, allows_alone, are_some, denies_all, drops_none, drops_each, told_firewall}
 use Rattle.policy_lint.specs.Versions.{other_than, asks_by, is_denied_by, denies_by, names, has_open, denies_alone, comes, is_alone, all_rules, drops_rest, told_version, told_alone, alone_in}
-use Rattle.policy_lint.proofs.Clashing.{never_met}
-use Rattle.policy_lint.proofs.Covered.{both_true, covered_is_met}
+use Rattle.policy_lint.specs.Walking.{is_rewritten, is_excluding, is_excluded, has_excluded, is_balancer, told_vip, vip4, vip6, told_balancer, rewrites_source, told_source, hides, last_whole, told_hidden_at, told_hidden, is_signature, redacts, is_erasable, told_redacted, told_signature, told_plain_rule, told_plain, told_behind_whole, told_step, told_place, walked}
+use Rattle.policy_lint.proofs.Clashing.{not_both, never_met}
+use Rattle.policy_lint.proofs.Covered.{both_true, right_of, covered_is_met}
 use Rattle.policy_lint.proofs.Denied.{negated, all_denied, all_alike}
 
 -- what a search finds is one of the things, and passes
@@ -48,6 +55,32 @@ find_one {T} p (y ∷ things) t h = by (p y) refl (λ later. find_one p things t
     by false is later =
         let rest = later (sym (ap (λ b. cond b (Some y) (find p things)) is) ∙ h) in
         (record { front = y ∷ rest.0.front; back = rest.0.back; is = ap (λ l. y ∷ l) rest.0.is }, rest.1)
+
+-- one of the things passes
+any_one : {T : Type 0} (p : T → Bool) (things : List T) → list_any p things ≡ true → (t : T) × IsOne things t × (p t ≡ true)
+any_one p [] h = absurd cc
+any_one {T} p (y ∷ things) h = by (p y) refl (λ later. any_one p things later)
+  where
+    by : (b : Bool) → p y ≡ b → (list_any p things ≡ true → (t : T) × IsOne things t × (p t ≡ true)) → (t : T) × IsOne (y ∷ things) t × (p t ≡ true)
+    by true is later = (y, record { front = []; back = things; is = refl }, is)
+    by false is later =
+        let rest = later (right_of (p y) (list_any p things) h is) in
+        (rest.0, record { front = y ∷ rest.1.front; back = rest.1.back; is = ap (λ l. y ∷ l) rest.1.is }, rest.2)
+
+-- what all things pass one of them passes
+one_met : {T : Type 0} (p : T → Bool) (things : List T) (t : T) → IsOne things t → list_all p things ≡ true → p t ≡ true
+one_met {T} p things t one h = by one.front (sym (ap (list_all p) one.is) ∙ h)
+  where
+    by : (front : List T) → list_all p (front ++ t ∷ one.back) ≡ true → p t ≡ true
+    by [] all = (both_true (p t) (list_all p one.back) all).0
+    by (y ∷ front) all = by front (both_true (p y) (list_all p (front ++ t ∷ one.back)) all).1
+
+not_true : (b : Bool) → (b ≡ true → ⊥) → b ≡ false
+not_true b never = by b refl
+  where
+    by : (x : Bool) → b ≡ x → b ≡ false
+    by true is = absurd (never is)
+    by false is = is
 
 -- what each thing gives is so, and so all is
 all_gathered : {T : Type 0} (P : Finding → Type 0) (gives : List T → T → List Finding) (whole : List T) → ((before : List T) (t : T) (after : List T) → whole ≡ before ++ t ∷ after → All P (gives before t)) →
@@ -292,14 +325,130 @@ module _ (cuts : List Bool) (chains : List ChainPolicy) (orders : List Order) (b
       (λ front place back of. told_counting front place back of (is_at limits chain.functions place && not (list_any (is_at is_whole chain.functions) front)) (find (is_at writes_source chain.functions) front) refl refl)
       [] (order_at orders (length before)) refl
 
+  -- A function in its place.
+  module _ (front : List ℕ) (place : ℕ) (back : List ℕ) (of : order_at orders (length before) ≡ front ++ place ∷ back) (decl : FunctionDecl) (found : slice_get chain.functions place ≡ Some decl) where
+    placed : (P : ChainPolicy → List ℕ → FunctionDecl → Type 0) → P chain front decl → IsPlaced P chains orders
+    placed P so = record { before = before; chain = chain; after = after; of_chains = is; front = front; place = place; back = back; of_order = of; decl = decl; is_there = found; so = so }
+
+    -- what the function at an earlier place is
+    earlier : (test : FunctionDecl → Bool) (places : List ℕ) (other : ℕ) → find (is_at test chain.functions) places ≡ Some other → IsBefore (λ d. test d ≡ true) (line_at chain.functions other) chain places
+    earlier test places other is =
+        let one = find_one (is_at test chain.functions) places other is in
+        let at = there test chain.functions other one.1 in
+        record { place = other; among = one.0; at_line = refl; decl = at.0; is_there = at.1; so = at.2 }
+
+    -- a clause that one of the match excludes
+    excluded : (c : Clause) (fit : Match) → is_excluded chain front c ≡ true → ((seen : Seen) → is_fitting fit seen ≡ true → is_met seen c ≡ true) → IsExcluded chain front fit
+    excluded c fit h meets =
+        let one = any_one (is_excluding chain.functions front c) chain.fit.clauses h in
+        let parts = both_true (opposes c one.0) (not (is_rewritten chain.functions front one.0)) one.2 in
+        record {
+          other = one.0;
+          of_match = one.1;
+          kept = negated (is_rewritten chain.functions front one.0) parts.1;
+          never = λ seen real met. not_true (is_fitting fit seen) (λ fits. not_both seen c one.0 real parts.0 (meets seen fits) met);
+        }
+
+    plain_rule : (r : RuleLine) → IsOne (rules_of decl) r → All (Means cuts chains orders) (told_plain_rule chain front r)
+    plain_rule r one =
+        All-append (Means cuts chains orders) (told_if (has_excluded chain front r.fit.clauses) (MatchExcludes r.line chain.line)) (option_to_list (told_source chain front r))
+        (so_told (Means cuts chains orders) (has_excluded chain front r.fit.clauses) (MatchExcludes r.line chain.line) (λ h.
+        let c = any_one (is_excluded chain front) r.fit.clauses h in
+        placed (IsRuleExcluded r.line chain.line) (refl, record { rule = r; of_rules = one; at_line = refl; so = excluded c.0 r.fit c.2 (λ seen fits. one_met (is_met seen) r.fit.clauses c.0 c.1 fits) })))
+        (by (find (is_at (rewrites_source r.fit.clauses) chain.functions) front) refl)
+      where
+        by : (o : Option ℕ) → find (is_at (rewrites_source r.fit.clauses) chain.functions) front ≡ o → All (Means cuts chains orders) (option_to_list (option_map (λ other. SourceRewritten r.line (line_at chain.functions other)) o))
+        by None none = All-nil (Means cuts chains orders)
+        by (Some other) some = one_told (Means cuts chains orders) (SourceRewritten r.line (line_at chain.functions other))
+            (placed (IsRuleRewritten r.line (line_at chain.functions other)) (record { rule = r; of_rules = one; at_line = refl; so = earlier (rewrites_source r.fit.clauses) front other some }))
+
+    vip : (o : Option (ℕ × Clause)) → ((line : ℕ) (c : Clause) → o ≡ Some (line, c) → (vip4 (value_of address_of (codes "vip") decl) ≡ Some (line, c)) ⊎ (vip6 (value_of address6_of (codes "vip") decl) ≡ Some (line, c))) →
+        All (Means cuts chains orders) (told_vip chain front o)
+    vip None so = All-nil (Means cuts chains orders)
+    vip (Some v) so = so_told (Means cuts chains orders) (is_excluded chain front v.1) (VipExcluded v.0 chain.line)
+        (λ h. placed (IsVipExcluded v.0 chain.line) (record {
+          vip = v.1;
+          of_lines = so v.0 v.1 refl;
+          of_chain = refl;
+          excluded = excluded v.1 (record { clauses = v.1 ∷ [] }) h (λ seen fits. (both_true (is_met seen v.1) true fits).0);
+        }))
+
+    balancer : All (Means cuts chains orders) (told_balancer chain front decl)
+    balancer = by (is_balancer decl.kind)
+      where
+        four : Option (ℕ × Clause)
+        four = vip4 (value_of address_of (codes "vip") decl)
+
+        six : Option (ℕ × Clause)
+        six = vip6 (value_of address6_of (codes "vip") decl)
+
+        by : (b : Bool) → All (Means cuts chains orders) (if b then told_vip chain front four ++ told_vip chain front six else [])
+        by true = All-append (Means cuts chains orders) (told_vip chain front four) (told_vip chain front six) (vip four (λ line c h. inl h)) (vip six (λ line c h. inr h))
+        by false = All-nil (Means cuts chains orders)
+
+    redacted : (s : Setting) → IsOne decl.settings s → All (Means cuts chains orders) (option_to_list (told_redacted chain front s.line (text_of decl.kind s)))
+    redacted s one = by (is_erasable word) refl (find (is_at (redacts word) chain.functions) front) refl
+      where
+        word : List ℕ
+        word = text_of decl.kind s
+
+        by : (b : Bool) → is_erasable word ≡ b → (o : Option ℕ) → find (is_at (redacts word) chain.functions) front ≡ o →
+            All (Means cuts chains orders) (option_to_list (if b then option_map (λ other. RedactedBefore s.line (line_at chain.functions other)) o else None))
+        by false fails o is = All-nil (Means cuts chains orders)
+        by true erasable None none = All-nil (Means cuts chains orders)
+        by true erasable (Some other) some = one_told (Means cuts chains orders) (RedactedBefore s.line (line_at chain.functions other))
+            (placed (IsRedacted s.line (line_at chain.functions other)) (record { setting = s; of_settings = one; at_line = refl; so = (erasable, earlier (redacts word) front other some) }))
+
+    signature : All (Means cuts chains orders) (told_signature chain front decl)
+    signature = by (is_signature decl.kind)
+      where
+        gives : List Setting → Setting → List Finding
+        gives others s = option_to_list (told_redacted chain front s.line (text_of decl.kind s))
+
+        by : (b : Bool) → All (Means cuts chains orders) (if b then gathered (λ others (s : Setting). option_to_list (told_redacted chain front s.line (text_of decl.kind s))) [] decl.settings else [])
+        by true = all_gathered (Means cuts chains orders) gives decl.settings (λ others s later of. redacted s (record { front = others; back = later; is = of })) [] decl.settings refl
+        by false = All-nil (Means cuts chains orders)
+
+    hidden : (r : RuleLine) → IsOne (rules_of decl) r → All (Means cuts chains orders) (told_hidden chain (reverse front) r)
+    hidden r one = by (last_whole chain.functions (reverse front)) refl
+      where
+        by : (o : Option ℕ) → last_whole chain.functions (reverse front) ≡ o → All (Means cuts chains orders) (option_map_or (told_hidden_at chain.functions r) o [])
+        by None none = All-nil (Means cuts chains orders)
+        by (Some other) some = so_told (Means cuts chains orders) (is_at (hides r.fit.clauses) chain.functions other) (HiddenInTunnel r.line (line_at chain.functions other)) (λ h.
+            let among = find_one (is_at is_whole chain.functions) (reverse front) other some in
+            let at = there (hides r.fit.clauses) chain.functions other h in
+            placed (IsRuleHidden r.line (line_at chain.functions other)) (record { rule = r; of_rules = one; at_line = refl; so = record { place = other; among = among.0; at_line = refl; decl = at.0; is_there = at.1; so = at.2 } }))
+
+    step : All (Means cuts chains orders) (told_step chain front decl)
+    step = by (list_any (is_at is_whole chain.functions) front)
+      where
+        by : (b : Bool) → All (Means cuts chains orders) (if b then told_behind_whole chain front decl else told_plain chain front decl)
+        by true = all_gathered (Means cuts chains orders) (λ others r. told_hidden chain (reverse front) r) (rules_of decl) (λ others r later of. hidden r (record { front = others; back = later; is = of })) [] (rules_of decl) refl
+        by false =
+            All-append (Means cuts chains orders) (gathered (λ others r. told_plain_rule chain front r) [] (rules_of decl)) (told_balancer chain front decl ++ told_signature chain front decl)
+            (all_gathered (Means cuts chains orders) (λ others r. told_plain_rule chain front r) (rules_of decl) (λ others r later of. plain_rule r (record { front = others; back = later; is = of })) [] (rules_of decl) refl)
+            (All-append (Means cuts chains orders) (told_balancer chain front decl) (told_signature chain front decl) balancer signature)
+
+  each_place : (front : List ℕ) (place : ℕ) (back : List ℕ) → order_at orders (length before) ≡ front ++ place ∷ back → All (Means cuts chains orders) (told_place chain front place)
+  each_place front place back of = by (slice_get chain.functions place) refl
+    where
+      by : (o : Option FunctionDecl) → slice_get chain.functions place ≡ o → All (Means cuts chains orders) (option_map_or (told_step chain front) o [])
+      by None none = All-nil (Means cuts chains orders)
+      by (Some decl) some = step front place back of decl some
+
+  all_walked : All (Means cuts chains orders) (walked chain (order_at orders (length before)))
+  all_walked = all_gathered (Means cuts chains orders) (told_place chain) (order_at orders (length before)) each_place [] (order_at orders (length before)) refl
+
   all_told : All (Means cuts chains orders) (told_at cuts orders before chain)
   all_told =
       let order = order_at orders (length before) in
-      let behind_others = unreached chain.functions order ++ limited_behind chain.functions order in
+      let behind_limited = limited_behind chain.functions order ++ walked chain order in
+      let behind_others = unreached chain.functions order ++ behind_limited in
       All-append (Means cuts chains orders) (told_fit chain.line chain.fit) (told_functions cuts chain.functions ++ (alone_in before chain ++ behind_others)) all_fit
       (All-append (Means cuts chains orders) (told_functions cuts chain.functions) (alone_in before chain ++ behind_others) all_functions
       (All-append (Means cuts chains orders) (alone_in before chain) behind_others all_alone
-      (All-append (Means cuts chains orders) (unreached chain.functions order) (limited_behind chain.functions order) (all_unreached [] order refl) all_limited)))
+      (All-append (Means cuts chains orders) (unreached chain.functions order) behind_limited (all_unreached [] order refl)
+      (All-append (Means cuts chains orders) (limited_behind chain.functions order) (walked chain order) all_limited all_walked))))
 
 -- Nats.
 module _ (cuts : List Bool) (chains : List ChainPolicy) (orders : List Order) where
@@ -337,10 +486,35 @@ module _ (cuts : List Bool) (chains : List ChainPolicy) (orders : List Order) wh
       (told_shared front nat back of (find (shares nat) front) refl)))
       [] (nats_of chains) refl
 
+-- Chains of limiters.
+module _ (cuts : List Bool) (chains : List ChainPolicy) (orders : List Order) where
+  one_apart : (before : List ChainPolicy) (chain : ChainPolicy) (after : List ChainPolicy) → chains ≡ before ++ chain ∷ after → (n : NatLines) → IsOne (filter_map nat_of chain.functions) n → (o : Option ChainPolicy) → find (takes_from n) before ≡ o →
+      All (Means cuts chains orders) (option_to_list (option_map (λ (c : ChainPolicy). LimiterApart c.line n.inside_line) o))
+  one_apart before chain after is n of None none = All-nil (Means cuts chains orders)
+  one_apart before chain after is n of (Some other) some =
+      let one = find_one (takes_from n) before other some in
+      one_told (Means cuts chains orders) (LimiterApart other.line n.inside_line) (record {
+        earlier = other;
+        later = chain;
+        follows = record { before = before; after = after; is = is; among = one.0 };
+        nat = n;
+        of_nats = of;
+        at_line = refl;
+        at_inside = refl;
+        takes = one.1;
+      })
+
+  all_apart : All (Means cuts chains orders) (apart chains)
+  all_apart = all_gathered (Means cuts chains orders) apart_in chains
+      (λ before chain after is. all_gathered (Means cuts chains orders) (λ others n. told_apart before n) (filter_map nat_of chain.functions)
+      (λ front n back of. one_apart before chain after is n (record { front = front; back = back; is = of }) (find (takes_from n) before) refl)
+      [] (filter_map nat_of chain.functions) refl)
+      [] chains refl
+
 pub all_true : (cuts : List Bool) (chains : List ChainPolicy) (orders : List Order) → All (Means cuts chains orders) (findings cuts chains orders)
 all_true cuts chains orders =
-    All-append (Means cuts chains orders) (covered chain_asking chains) (gathered (told_at cuts orders) [] chains ++ told_nats chains)
+    All-append (Means cuts chains orders) (covered chain_asking chains) (gathered (told_at cuts orders) [] chains ++ (told_nats chains ++ apart chains))
     (each_covered chain_asking chains (Means cuts chains orders) (λ line other c. c))
-    (All-append (Means cuts chains orders) (gathered (told_at cuts orders) [] chains) (told_nats chains)
+    (All-append (Means cuts chains orders) (gathered (told_at cuts orders) [] chains) (told_nats chains ++ apart chains)
     (all_gathered (Means cuts chains orders) (told_at cuts orders) chains (λ before chain after is. all_told cuts chains orders before chain after is) [] chains refl)
-    (all_nats cuts chains orders))
+    (All-append (Means cuts chains orders) (told_nats chains) (apart chains) (all_nats cuts chains orders) (all_apart cuts chains orders)))

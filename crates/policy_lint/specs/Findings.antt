@@ -7,6 +7,7 @@ use Rattle.policy_check.specs.declared.fault.Order.{Order}
 use Rattle.policy_lint.specs.declared.finding.Finding.{Finding}
 use Rattle.policy_lint.specs.declared.finding.Finding.TheVariants.{ChainTaken, RuleCovered}
 use Rattle.policy_lint.specs.declared.rule_line.RuleLine.{RuleLine}
+use Rattle.policy_lint.specs.Apart.{apart}
 use Rattle.policy_lint.specs.Behind.{unreached, limited_behind}
 use Rattle.policy_lint.specs.Gathering.{Asking, gathered, covered}
 use Rattle.policy_lint.specs.Limits.{told_limiter}
@@ -16,6 +17,7 @@ use Rattle.policy_lint.specs.Rules.{rules_of}
 use Rattle.policy_lint.specs.Spelling.{told_fit, told_rules}
 use Rattle.policy_lint.specs.Verdicts.{told_firewall}
 use Rattle.policy_lint.specs.Versions.{alone_in}
+use Rattle.policy_lint.specs.Walking.{walked}
 
 -- chains and rules ask for clauses
 abbrev pub chain_asking : Asking ChainPolicy
@@ -36,7 +38,7 @@ told_functions cuts functions = gathered (λ before decl. told_function cuts dec
 abbrev pub told_in : List Bool → List ℕ → List ChainPolicy → ChainPolicy → List Finding
 told_in cuts order before chain =
     told_fit chain.line chain.fit
-    ++ (told_functions cuts chain.functions ++ (alone_in before chain ++ (unreached chain.functions order ++ limited_behind chain.functions order)))
+    ++ (told_functions cuts chain.functions ++ (alone_in before chain ++ (unreached chain.functions order ++ (limited_behind chain.functions order ++ walked chain order))))
 
 -- the order of the chain at this place
 abbrev pub order_at : List Order → ℕ → List ℕ
@@ -45,6 +47,6 @@ order_at orders place = option_map_or (λ o. o.positions) (slice_get orders plac
 abbrev pub told_at : List Bool → List Order → List ChainPolicy → ChainPolicy → List Finding
 told_at cuts orders before chain = told_in cuts (order_at orders (length before)) before chain
 
--- By the lines that a comment cuts off: chains that none reaches, then chain by chain what is told of it, then nats
+-- By the lines that a comment cuts off: chains that none reaches, then chain by chain what is told of it, then nats, and chains of limiters beside them
 abbrev pub findings : List Bool → List ChainPolicy → List Order → List Finding
-findings cuts chains orders = covered chain_asking chains ++ (gathered (told_at cuts orders) [] chains ++ told_nats chains)
+findings cuts chains orders = covered chain_asking chains ++ (gathered (told_at cuts orders) [] chains ++ (told_nats chains ++ apart chains))

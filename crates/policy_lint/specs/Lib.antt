@@ -1,3 +1,4 @@
+pub mod Apart
 pub mod Behind
 pub mod Findings
 pub mod Firewalls
@@ -13,3 +14,4 @@ pub mod Spelling
 pub mod Telling
 pub mod Verdicts
 pub mod Versions
+pub mod Walking

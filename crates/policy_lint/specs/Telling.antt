@@ -1,7 +1,7 @@
 -- For proofs: the lines that a finding speaks of.
 use Rattle.std.specs.Prelude.{ℕ, Option, Some, None}
 use Rattle.policy_lint.specs.declared.finding.Finding.{Finding}
-use Rattle.policy_lint.specs.declared.finding.Finding.TheVariants.{ChainTaken, RuleCovered, NeverReached, LimiterBehind, DeniesIpv4Alone, DeniesIpv6Alone, PublicInside, SharedPorts, ClausesClash, BitsPastLength, MarksIpv6, QuotedPattern, CommaPattern, CutPattern, GlobPattern, RegexPattern, DropsNone, DropsEach, SmallBurst}
+use Rattle.policy_lint.specs.declared.finding.Finding.TheVariants.{ChainTaken, RuleCovered, NeverReached, LimiterBehind, DeniesIpv4Alone, DeniesIpv6Alone, PublicInside, SharedPorts, ClausesClash, BitsPastLength, MarksIpv6, QuotedPattern, CommaPattern, CutPattern, GlobPattern, RegexPattern, DropsNone, DropsEach, SmallBurst, MatchExcludes, VipExcluded, SourceRewritten, HiddenInTunnel, RedactedBefore, LimiterApart}
 
 abbrev pub line_of : Finding → ℕ
 line_of (ChainTaken line by) = line
@@ -23,6 +23,12 @@ line_of (RegexPattern line) = line
 line_of (DropsNone line) = line
 line_of (DropsEach line) = line
 line_of (SmallBurst line) = line
+line_of (MatchExcludes line by) = line
+line_of (VipExcluded line by) = line
+line_of (SourceRewritten line by) = line
+line_of (HiddenInTunnel line by) = line
+line_of (RedactedBefore line by) = line
+line_of (LimiterApart line by) = line
 
 -- the line that makes it so, if there is one
 abbrev pub other_of : Finding → Option ℕ
@@ -45,3 +51,9 @@ other_of (RegexPattern line) = None
 other_of (DropsNone line) = None
 other_of (DropsEach line) = None
 other_of (SmallBurst line) = None
+other_of (MatchExcludes line by) = Some by
+other_of (VipExcluded line by) = Some by
+other_of (SourceRewritten line by) = Some by
+other_of (HiddenInTunnel line by) = Some by
+other_of (RedactedBefore line by) = Some by
+other_of (LimiterApart line by) = Some by

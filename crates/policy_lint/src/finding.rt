@@ -41,4 +41,16 @@ pub enum Finding {
     DropsEach { line: u32 },
     /// The limiter drops each packet of 1,500 bytes: its burst is less.
     SmallBurst { line: u32 },
+    /// No packet of the chain, whose line is the other, meets the rule.
+    MatchExcludes { line: u32, by: u32 },
+    /// No packet of the chain, whose line is the other, is for the virtual address.
+    VipExcluded { line: u32, by: u32 },
+    /// A nat before the rule rewrites the sources that the rule asks for.
+    SourceRewritten { line: u32, by: u32 },
+    /// An encap before the rule hides the addresses that the rule asks for.
+    HiddenInTunnel { line: u32, by: u32 },
+    /// A redactor before the signature overwrites its pattern.
+    RedactedBefore { line: u32, by: u32 },
+    /// The chain has limiters, and packets that it takes miss the nat whose prefix inside is on the other line.
+    LimiterApart { line: u32, by: u32 },
 }

@@ -15,6 +15,7 @@
 //! source may be seen there.
 #![tactic(auto)]
 
+mod apart;
 mod asking;
 mod behind;
 mod covering;
@@ -31,6 +32,7 @@ mod spelling;
 mod telling;
 mod verdicts;
 mod versions;
+mod walking;
 
 pub use covering::covers;
 pub use finding::Finding;

@@ -4,6 +4,7 @@ ghost use Rattle.policy_lint.specs.Findings.{told_function, told_functions, told
 ghost use Rattle.policy_lint.specs.Gathering.{gathered};
 ghost use Rattle.policy_lint.specs.Findings.{told_at};
 
+use crate::apart::push_apart;
 use crate::asking::push_covered;
 use crate::behind::{push_limited, push_unreached};
 use crate::finding::Finding;
@@ -14,6 +15,7 @@ use crate::rule_line::rules_of;
 use crate::spelling::{push_fit, push_told_rules};
 use crate::verdicts::push_firewall;
 use crate::versions::push_alone;
+use crate::walking::push_walked;
 use item_list::Items;
 use policy_check::Order;
 use policy_text::{ChainPolicy, FunctionDecl, Policy};
@@ -34,6 +36,7 @@ pub fn lint(
     push_covered(&mut found, chains)?;
     push_chains(alloc, &mut found, cuts, chains, orders)?;
     push_nats(alloc, &mut found, chains)?;
+    push_apart(alloc, &mut found, chains)?;
     Ok(found)
 }
 
@@ -80,7 +83,8 @@ fn push_chain(
     push_functions(alloc, found, cuts, functions)?;
     push_alone(alloc, found, before, chain)?;
     push_unreached(alloc, found, functions, order)?;
-    push_limited(found, functions, order)
+    push_limited(found, functions, order)?;
+    push_walked(alloc, found, chain, order)
 }
 
 // Adds what is odd in functions, each by itself.

@@ -84,7 +84,8 @@ fn nats_of(alloc: Global, chains: &[ChainPolicy]) -> Result<Items<NatLines>, All
 }
 
 #[tactic(auto, using(crate::proofs::Steps::keeps_none, crate::proofs::Steps::keeps_all))]
-fn keep_nats(nats: &mut Items<NatLines>, functions: &[FunctionDecl]) -> Result<(), AllocError>
+/// Adds the nats of functions to others.
+pub fn keep_nats(nats: &mut Items<NatLines>, functions: &[FunctionDecl]) -> Result<(), AllocError>
     ensures { OnOk result (nats.new ≡ nats.old ++ filter_map nat_of functions.now) }
 {
     'functions: for place in 0..functions.len() {
@@ -108,7 +109,8 @@ fn is_nat(kind: Kind) -> bool
     matches!(kind, Kind::Nat)
 }
 
-fn nat_of(decl: &FunctionDecl) -> Option<NatLines>
+/// What the lines of a nat set, or nothing of another function.
+pub fn nat_of(decl: &FunctionDecl) -> Option<NatLines>
     ensures { result ≡ nat_of decl.now }
 {
     if !is_nat(decl.kind) {

@@ -20,8 +20,8 @@ pub fn is_opposed(clauses: &[Clause], clause: Clause) -> bool
     clauses.iter().any(|other| opposes(clause, *other))
 }
 
-// Does no packet meet both?
-fn opposes(clause: Clause, other: Clause) -> bool
+/// Does no packet meet both?
+pub fn opposes(clause: Clause, other: Clause) -> bool
     ensures { result ≡ opposes clause other }
 {
     match (clause, other) {
@@ -69,8 +69,8 @@ fn has_ports(protocol: u8) -> bool
     protocol == 6 || protocol == 17
 }
 
-// Do the prefixes share no address?
-fn are_apart(prefix: u32, bits: u8, other: u32, count: u8) -> bool
+/// Do the prefixes share no address?
+pub fn are_apart(prefix: u32, bits: u8, other: u32, count: u8) -> bool
     ensures { result ≡ are_apart prefix bits other count }
 {
     !lies_in(prefix, bits, other, count) && !lies_in(other, count, prefix, bits)

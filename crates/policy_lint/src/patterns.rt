@@ -105,8 +105,8 @@ fn is_cut_at(cuts: &[bool], line: u32) -> bool
     }
 }
 
-// The word of a pattern that is a text, none where the line has none.
-fn text_of(kind: Kind, setting: &Setting) -> &[u8]
+/// The word of a pattern that is a text, none if the line has none.
+pub fn text_of(kind: Kind, setting: &Setting) -> &[u8]
     ensures { result.now ≡ text_of kind setting.now }
 {
     let words = setting.words.as_slice();

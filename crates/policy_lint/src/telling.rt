@@ -61,6 +61,24 @@ const DROPS_EACH: &str =
 const SMALL_BURST: &str =
     "this limiter drops every packet that is longer than its burst, at any rate: a usual packet has up to 1,500 bytes\n  set a burst of at least 1500";
 
+const MATCH_EXCLUDES: &str =
+    "no packet of this chain meets this rule: the `match` on line {} takes none that does\n  delete the rule, or move it to the chain that takes these packets";
+
+const VIP_EXCLUDED: &str =
+    "no packet of this chain is sent to this address: the `match` on line {} takes none of them\n  move the balancer to the chain that takes these packets, or let the `match` take the address too";
+
+const SOURCE_REWRITTEN: &str =
+    "the nat on line {} comes before this rule and writes its public address over the sources that the rule asks for: no packet that it translates meets the rule\n  write `order A before B` so that this function comes before the nat, or ask for the public address";
+
+const HIDDEN_IN_TUNNEL: &str =
+    "the encap on line {} comes before this rule, and a packet in its tunnel shows the tunnel's addresses alone: none meets the rule\n  write `order A before B` so that this function comes before the encap, or ask for the addresses of the tunnel";
+
+const REDACTED_BEFORE: &str =
+    "this pattern is never found: the redactor on line {} comes before the signature and overwrites it\n  write `order A before B` so that the signature comes before the redactor, or delete one of the two rules";
+
+const LIMITER_APART: &str =
+    "packets that this chain takes miss the nat of line {}, and leave with their source inside: a packet goes through one chain alone\n  put the limiter into the chain of the nat, before it; or give this chain a nat with ports of its own";
+
 impl Finding {
     /// The line that it speaks of.
     pub fn line(self) -> u32
@@ -85,7 +103,13 @@ impl Finding {
             | Finding::RegexPattern { line }
             | Finding::DropsNone { line }
             | Finding::DropsEach { line }
-            | Finding::SmallBurst { line } => line,
+            | Finding::SmallBurst { line }
+            | Finding::MatchExcludes { line, .. }
+            | Finding::VipExcluded { line, .. }
+            | Finding::SourceRewritten { line, .. }
+            | Finding::HiddenInTunnel { line, .. }
+            | Finding::RedactedBefore { line, .. }
+            | Finding::LimiterApart { line, .. } => line,
         }
     }
 
@@ -98,7 +122,13 @@ impl Finding {
             | Finding::RuleCovered { by, .. }
             | Finding::NeverReached { by, .. }
             | Finding::LimiterBehind { by, .. }
-            | Finding::SharedPorts { by, .. } => Some(by),
+            | Finding::SharedPorts { by, .. }
+            | Finding::MatchExcludes { by, .. }
+            | Finding::VipExcluded { by, .. }
+            | Finding::SourceRewritten { by, .. }
+            | Finding::HiddenInTunnel { by, .. }
+            | Finding::RedactedBefore { by, .. }
+            | Finding::LimiterApart { by, .. } => Some(by),
             Finding::PublicInside { inside, .. } => Some(inside),
             Finding::DeniesIpv4Alone { .. }
             | Finding::DeniesIpv6Alone { .. }
@@ -139,6 +169,12 @@ impl Finding {
             Finding::DropsNone { .. } => DROPS_NONE,
             Finding::DropsEach { .. } => DROPS_EACH,
             Finding::SmallBurst { .. } => SMALL_BURST,
+            Finding::MatchExcludes { .. } => MATCH_EXCLUDES,
+            Finding::VipExcluded { .. } => VIP_EXCLUDED,
+            Finding::SourceRewritten { .. } => SOURCE_REWRITTEN,
+            Finding::HiddenInTunnel { .. } => HIDDEN_IN_TUNNEL,
+            Finding::RedactedBefore { .. } => REDACTED_BEFORE,
+            Finding::LimiterApart { .. } => LIMITER_APART,
         }
     }
 }
