@@ -2,7 +2,7 @@
 //!
 //! The line and the status are what the program promises. Where there is no memory for more, or no standard error, there is no more.
 
-use crate::odd::tell_odd;
+use crate::odd::{count_odd, tell_odd};
 use file_desk::Reason;
 use nfp_outside::Slot;
 use nfp_run::{Option4, Outcome, UsageFault};
@@ -35,6 +35,7 @@ pub fn tell_more<R: Env + Eprint + AllocGlobal>(
     let mut page = Page::new(rt.alloc());
     match (outcome, seen.name(Slot::Capture)) {
         (Outcome::Done, None) => tell_odd(&mut page, rt, rt.alloc(), seen),
+        (Outcome::Done, Some(_)) => count_odd(&mut page, rt, rt.alloc(), seen),
         _ => fill(&mut page, rt, words, seen, outcome, reason),
     }
     if !page.text().is_empty() {

@@ -1,10 +1,10 @@
-//! What is odd in a policy whose plan was shown.
-ghost use Rattle.std.specs.Prelude.{◌≤◌, length};
+//! What is odd in a policy whose plan was shown, or whose chains ran.
 
 use nfp_outside::Slot;
 use operator_help::policy::PolicyText;
 use operator_help::{Page, lint};
 use policy_judge::judge;
+use policy_lint::{Finding, Items, cut_lines};
 use std::alloc::Global;
 use std::rt::Env;
 use watched_desk::Seen;
@@ -12,12 +12,29 @@ use watched_desk::Seen;
 /// The bytes of the longest policy.
 const LONGEST: usize = 1_048_576;
 
-/// Tells what is odd in the policy that was read, unless the environment has `NFP_LINT=0`.
+/// Adds each thing that is odd in the policy that was read, unless the environment has `NFP_LINT=0`.
 pub fn tell_odd(page: &mut Page, rt: &impl Env, alloc: Global, seen: &Seen) {
-    if let (Some(name), Some(text)) = (seen.name(Slot::Policy), seen.policy()) {
-        if is_wanted(rt) && text.len() <= LONGEST {
-            find(page, alloc, PolicyText { name, text });
+    if let Some(policy) = policy_in(rt, seen) {
+        if let Some(found) = find(alloc, policy.text) {
+            lint::findings(page, policy, found.as_slice());
         }
+    }
+}
+
+/// Adds a line that says how many odd things are in the policy that was read, if there are any and the environment has no `NFP_LINT=0`.
+pub fn count_odd(page: &mut Page, rt: &impl Env, alloc: Global, seen: &Seen) {
+    if let Some(policy) = policy_in(rt, seen) {
+        if let Some(found) = find(alloc, policy.text) {
+            lint::count(page, policy.name, found.as_slice().len());
+        }
+    }
+}
+
+// The policy that was read, if it is to be looked at.
+fn policy_in<'a>(rt: &impl Env, seen: &'a Seen) -> Option<PolicyText<'a>> {
+    match (seen.name(Slot::Policy), seen.policy()) {
+        (Some(name), Some(text)) if is_wanted(rt) => Some(PolicyText { name, text }),
+        _ => None,
     }
 }
 
@@ -26,14 +43,22 @@ fn is_wanted(rt: &impl Env) -> bool {
     !(matches!(rt.var("NFP_LINT", &mut value), Ok(1)) && value[0] == b'0')
 }
 
-// Where there is no memory to look for it, nothing is told.
-fn find(page: &mut Page, alloc: Global, policy: PolicyText<'_>)
-    requires { length policy.text.now ≤ 1048576 }
-{
-    let Ok(judged) = judge(alloc, policy.text) else {
-        return;
-    };
-    if let Ok(found) = policy_lint::lint(alloc, &judged.policy, judged.orders.as_slice()) {
-        lint::findings(page, policy, found.as_slice());
+// What is found, or nothing if there is no memory to look for it.
+fn find(alloc: Global, text: &[u8]) -> Option<Items<Finding>> {
+    if text.len() > LONGEST {
+        return None;
     }
+    let Ok(judged) = judge(alloc, text) else {
+        return None;
+    };
+    let Ok(cuts) = cut_lines(alloc, text) else {
+        return None;
+    };
+    let found = policy_lint::lint(
+        alloc,
+        cuts.as_slice(),
+        &judged.policy,
+        judged.orders.as_slice(),
+    );
+    found.ok()
 }

@@ -6,7 +6,23 @@ use crate::policy::PolicyText;
 use crate::quotes::quote_row;
 use policy_lint::Finding;
 
-/// Tells each finding: its line, what it means, and how to say it otherwise.
+const ONE_ODD_THING: &str = "1 odd thing in {}: nfp plan tells it";
+
+const ODD_THINGS: &str = "{} odd things in {}: nfp plan tells them";
+
+/// Adds a line that says how many findings there are for the policy of this name, if there are any.
+pub fn count(page: &mut Page, name: &str, findings: usize) {
+    if findings == 1 {
+        page.tell(ONE_ODD_THING);
+        page.name(name);
+    } else if findings > 1 {
+        page.tell(ODD_THINGS);
+        page.number(findings as u64);
+        page.name(name);
+    }
+}
+
+/// Adds each finding: its line, what it means, and how to say it otherwise.
 pub fn findings(page: &mut Page, policy: PolicyText<'_>, found: &[Finding]) {
     let rows = page.rows(policy.text);
     tell_findings(page, policy.name, &rows, found);

@@ -25,7 +25,7 @@ both : (a b : Bool) → a ≡ true → b ≡ true → (a && b) ≡ true
 both true b first second = second
 both false b first second = absurd cc
 
-right_of : (a b : Bool) → (a || b) ≡ true → a ≡ false → b ≡ true
+pub right_of : (a b : Bool) → (a || b) ≡ true → a ≡ false → b ≡ true
 right_of true b h fails = absurd cc
 right_of false b h fails = h
 
@@ -44,7 +44,7 @@ fewer_bits : (m k n address : ℕ) → m + k ≡ n → address / 2 ^ n ≡ addre
 fewer_bits m k n address is =
     ap (λ e. address / 2 ^ e) (sym is) ∙ ap (λ d. address / d) (pow-add 2 m k) ∙ sym (div-div-eq-div-mul address (2 ^ m) (2 ^ k))
 
-same_front : (m k n address prefix : ℕ) → m + k ≡ n → address / 2 ^ m ≡ prefix / 2 ^ m → address / 2 ^ n ≡ prefix / 2 ^ n
+pub same_front : (m k n address prefix : ℕ) → m + k ≡ n → address / 2 ^ m ≡ prefix / 2 ^ m → address / 2 ^ n ≡ prefix / 2 ^ n
 same_front m k n address prefix is same = fewer_bits m k n address is ∙ ap (λ f. f / 2 ^ k) same ∙ sym (fewer_bits m k n prefix is)
 
 -- an address in a prefix that lies in another is in the other

@@ -14,6 +14,7 @@ use Rattle.policy_lint.specs.declared.versions.Version.{Version}
 use Rattle.policy_lint.specs.declared.versions.Version.TheVariants.{Ipv4, Ipv6}
 use Rattle.policy_lint.specs.Firewalls.{is_empty, ends, drops_by}
 use Rattle.policy_lint.specs.Versions.{is_of, asks_by, Lacks}
+use Rattle.policy_lint.proofs.Covered.{both_true}
 
 pub negated : (b : Bool) → not b ≡ true → b ≡ false
 negated true h = sym h
@@ -49,7 +50,21 @@ all_denied default (r ∷ rules) seen h = by r.allow (is_empty r.fit.clauses) re
     by false true is e later = ap (decided r rules seen default) (none_asked seen r.fit.clauses e) ∙ is
     by false false is e later = denied (is_fitting r.fit seen) is (later (sym (ap (λ b. ended r rules default (b || is_empty r.fit.clauses)) is ∙ ap (λ b. ended r rules default b) e) ∙ h))
 
-clause_unmet : (version : Version) (c : Clause) (seen : Seen) → is_of version c ≡ true → Lacks version seen → is_met seen c ≡ false
+-- rules of one verdict, which is the default too
+pub all_alike : (value : Bool) (is : RuleLine → Bool) (rules : List RuleLine) (seen : Seen) → ((r : RuleLine) → is r ≡ true → r.allow ≡ value) → list_all is rules ≡ true →
+    option_map_or (λ (r : RuleLine). r.allow) (first_met (λ (r : RuleLine). r.fit) seen rules) value ≡ value
+all_alike value is [] seen so h = refl
+all_alike value is (r ∷ rules) seen so h = let parts = both_true (is r) (list_all is rules) h in by (is_fitting r.fit seen) (so r parts.0) (all_alike value is rules seen so parts.1)
+  where
+    by : (met : Bool) → r.allow ≡ value → option_map_or (λ (x : RuleLine). x.allow) (first_met (λ (x : RuleLine). x.fit) seen rules) value ≡ value → decided r rules seen value met ≡ value
+    by true first later = first
+    by false first later = later
+
+pub all_allowed : (rules : List RuleLine) (seen : Seen) → list_all (λ (r : RuleLine). r.allow) rules ≡ true →
+    option_map_or (λ (r : RuleLine). r.allow) (first_met (λ (r : RuleLine). r.fit) seen rules) true ≡ true
+all_allowed rules seen h = all_alike true (λ r. r.allow) rules seen (λ r allows. allows) h
+
+pub clause_unmet : (version : Version) (c : Clause) (seen : Seen) → is_of version c ≡ true → Lacks version seen → is_met seen c ≡ false
 clause_unmet Ipv4 (Src prefix bits) seen h lacks = ap (λ a. option_map_or (is_within prefix bits) a false) lacks.0
 clause_unmet Ipv4 (Dst prefix bits) seen h lacks = ap (λ a. option_map_or (is_within prefix bits) a false) lacks.1
 clause_unmet Ipv6 (Src6 prefix bits) seen h lacks = ap (λ a. option_map_or (is_within6 prefix bits) a false) lacks.0

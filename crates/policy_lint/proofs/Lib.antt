@@ -1,3 +1,4 @@
+pub mod Clashing
 pub mod Covered
 pub mod Denied
 pub mod Meant

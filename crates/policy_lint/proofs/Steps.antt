@@ -1,5 +1,5 @@
 -- How findings and rules are gathered, one thing after another.
-use Rattle.std.proofs.Common.{◌≡◌, ◌<◌, ◌≤◌, ◌+◌, ◌∙◌, ℕ, List, [], ◌∷◌, ◌++◌, length, take, drop, get_or, map, refl, sym, ap, append_assoc, Some, None, true, false, arith}
+use Rattle.std.proofs.Common.{◌≡◌, ◌<◌, ◌≤◌, ◌+◌, ◌∙◌, ℕ, List, [], ◌∷◌, ◌++◌, length, take, drop, get_or, map, Bool, refl, sym, ap, append_assoc, Some, None, true, false, arith}
 use Rattle.std.specs.Prelude.{Option, filter_map, if◌then◌else◌}
 use Rattle.std.specs.List.{cons_option, flat_map}
 use Rattle.std.specs.Option.{option_to_list}
@@ -15,7 +15,9 @@ use Rattle.policy_lint.specs.Findings.{told_in, order_at, told_at}
 use Rattle.policy_lint.specs.Firewalls.{drops_all}
 use Rattle.policy_lint.specs.Nats.{nat_of, nats_of}
 use Rattle.policy_lint.specs.declared.finding.Finding.{Finding}
+use Rattle.policy_lint.specs.declared.rule_line.RuleLine.{RuleLine}
 use Rattle.policy_lint.specs.Gathering.{gathered}
+use Rattle.policy_lint.specs.Versions.{firewall_rules, all_rules}
 
 -- one more thing behind the others
 gathered_more : {T : Type 0} (gives : List T → T → List Finding) (before things : List T) (t : T) → gathered gives before (things ++ t ∷ []) ≡ gathered gives before things ++ gives (before ++ things) t
@@ -113,6 +115,21 @@ nats_more chains i d nats next is inside more =
     ∙ ap (filter_map nat_of) (sym (flat_map-append (λ (c : ChainPolicy). c.functions) (take i chains) (get_or chains i d ∷ []) ∙ ap (λ l. flat_map (λ (c : ChainPolicy). c.functions) (take i chains) ++ l) (append-nil (get_or chains i d).functions)))
     ∙ ap nats_of (sym (take_more chains i d inside))
 
+-- the rules of one more firewall
+pub rules_more : (functions : List FunctionDecl) (i : ℕ) (d t : FunctionDecl) (rules next : List RuleLine) → rules ≡ all_rules (take i functions) → i < length functions → t ≡ get_or functions i d →
+    next ≡ rules ++ firewall_rules t → next ≡ all_rules (take (i + 1) functions)
+rules_more functions i d t rules next so inside is more =
+    more
+    ∙ ap (λ l. l ++ firewall_rules t) so
+    ∙ ap (λ x. all_rules (take i functions) ++ firewall_rules x) is
+    ∙ sym (flat_map-append firewall_rules (take i functions) (get_or functions i d ∷ []) ∙ ap (λ l. all_rules (take i functions) ++ l) (append-nil (firewall_rules (get_or functions i d))))
+    ∙ ap all_rules (sym (take_more functions i d inside))
+
 -- the order of the chain at this place is that of the chain behind those before it
-pub told_here : (orders : List Order) (chains : List ChainPolicy) (chain : ChainPolicy) (order : List ℕ) (i : ℕ) → i < length chains → order ≡ order_at orders i → told_in order (take i chains) chain ≡ told_at orders (take i chains) chain
-told_here orders chains chain order i inside is = ap (λ o. told_in o (take i chains) chain) (is ∙ ap (order_at orders) (sym (length-take-le i chains (omega arith))))
+pub told_here : (cuts : List Bool) (orders : List Order) (chains : List ChainPolicy) (chain : ChainPolicy) (order : List ℕ) (i : ℕ) → i < length chains → order ≡ order_at orders i → told_in cuts order (take i chains) chain ≡ told_at cuts orders (take i chains) chain
+told_here cuts orders chains chain order i inside is = ap (λ o. told_in cuts o (take i chains) chain) (is ∙ ap (order_at orders) (sym (length-take-le i chains (omega arith))))
+
+-- two maps, one after the other
+pub map_twice : {A B C : Type 0} (f : B → C) (g : A → B) (xs : List A) → map (λ x. f (g x)) xs ≡ map f (map g xs)
+map_twice f g [] = refl
+map_twice f g (x ∷ xs) = ap (λ l. f (g x) ∷ l) (map_twice f g xs)

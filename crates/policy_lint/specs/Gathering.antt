@@ -1,9 +1,13 @@
 -- For proofs: findings that things of a list give, each by itself and those before it.
-use Rattle.std.specs.Prelude.{ℕ, List, [], ◌∷◌, ◌++◌, Option, find}
+use Rattle.std.specs.Prelude.{ℕ, List, [], ◌∷◌, ◌++◌, Bool, if◌then◌else◌, Option, find}
 use Rattle.std.specs.Option.{option_map, option_to_list}
 use Rattle.policy_text.specs.declared.clause.Match.{Match}
 use Rattle.policy_lint.specs.declared.finding.Finding.{Finding}
 use Rattle.policy_lint.specs.Implying.{covers}
+
+-- a finding, where it is so
+abbrev pub told_if : Bool → Finding → List Finding
+told_if is_so finding = if is_so then finding ∷ [] else []
 
 -- what each of these gives, with what stands before it
 abbrev pub gathered : {T : Type 0} → (List T → T → List Finding) → List T → List T → List Finding

@@ -1,10 +1,17 @@
+pub mod Apart
 pub mod Behind
 pub mod Findings
 pub mod Firewalls
 pub mod Gathering
 pub mod Implying
+pub mod Limits
 pub mod Meaning
 pub mod Nats
+pub mod Opposing
+pub mod Patterns
 pub mod Rules
+pub mod Spelling
 pub mod Telling
+pub mod Verdicts
 pub mod Versions
+pub mod Walking

@@ -1,5 +1,5 @@
 -- For proofs: nats whose public addresses are odd.
-use Rattle.std.specs.Prelude.{ℕ, List, [], ◌++◌, Bool, true, false, ◌&&◌, ◌==◌, nat_le, if◌then◌else◌, Option, Some, None, find, filter_map, codes}
+use Rattle.std.specs.Prelude.{ℕ, List, [], ◌++◌, Bool, true, false, not, ◌&&◌, ◌==◌, nat_le, if◌then◌else◌, Option, Some, None, find, filter_map, codes}
 use Rattle.std.specs.List.{flat_map}
 use Rattle.std.specs.Option.{option_map, option_and_then, option_to_list}
 use Rattle.std.specs.Str.{bytes_eq}
@@ -11,10 +11,11 @@ use Rattle.policy_text.specs.declared.policy.Setting.{Setting}
 use Rattle.policy_text.specs.Meeting.{is_within}
 use Rattle.policy_text.specs.Values.{address_of, prefix_of, range_of}
 use Rattle.policy_lint.specs.declared.finding.Finding.{Finding}
-use Rattle.policy_lint.specs.declared.finding.Finding.TheVariants.{PublicInside, SharedPorts}
+use Rattle.policy_lint.specs.declared.finding.Finding.TheVariants.{BitsPastLength, PublicInside, SharedPorts}
 use Rattle.policy_lint.specs.declared.nats.NatLines.{NatLines}
-use Rattle.policy_lint.specs.Gathering.{gathered}
+use Rattle.policy_lint.specs.Gathering.{told_if, gathered}
 use Rattle.policy_lint.specs.Rules.{word_of}
+use Rattle.policy_lint.specs.Spelling.{bits_past}
 
 -- a `set` line of this key
 abbrev pub sets : List ℕ → Setting → Bool
@@ -68,5 +69,12 @@ shares n other = n.public == other.public && (nat_le n.low other.high && nat_le 
 abbrev pub shared_of : List NatLines → NatLines → Option Finding
 shared_of before n = option_map (λ other. SharedPorts n.ports_line other.ports_line) (find (shares n) before)
 
+-- its prefix inside has bits past its length
+abbrev pub is_loose : NatLines → Bool
+is_loose n = not (bits_past 32 n.bits n.prefix == 0)
+
+abbrev pub told_nat : List NatLines → NatLines → List Finding
+told_nat before n = told_if (is_loose n) (BitsPastLength n.inside_line) ++ (option_to_list (inside_of n) ++ option_to_list (shared_of before n))
+
 abbrev pub told_nats : List ChainPolicy → List Finding
-told_nats chains = gathered (λ before n. option_to_list (inside_of n) ++ option_to_list (shared_of before n)) [] (nats_of chains)
+told_nats chains = gathered told_nat [] (nats_of chains)

@@ -46,10 +46,10 @@ fit_by kind words = None
 abbrev pub rule_fit : Kind → List (List ℕ) → Option Match
 rule_fit kind words = if bytes_eq (word_of words 0) (codes "rule") then fit_by kind words else None
 
--- the rule that a line of a function is, whether it allows, and its clauses
-abbrev pub rule_of : Kind → Setting → Option RuleLine
-rule_of kind s = option_map (λ fit. record { line = s.line; allow = bytes_eq (word_of s.words 1) (codes "allow"); fit = fit }) (rule_fit kind s.words)
+-- the rule that a line is, of the function on another line: whether it allows, and its clauses
+abbrev pub rule_of : Kind → ℕ → Setting → Option RuleLine
+rule_of kind owner s = option_map (λ fit. record { line = s.line; owner = owner; allow = bytes_eq (word_of s.words 1) (codes "allow"); fit = fit }) (rule_fit kind s.words)
 
 -- all rules of a function, in order
 abbrev pub rules_of : FunctionDecl → List RuleLine
-rules_of decl = filter_map (rule_of decl.kind) decl.settings
+rules_of decl = filter_map (rule_of decl.kind decl.line) decl.settings

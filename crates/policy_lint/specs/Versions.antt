@@ -1,7 +1,7 @@
 -- For proofs: firewalls that deny by addresses of one version of IP alone.
-use Rattle.std.specs.Prelude.{ℕ, ◌≡◌, List, [], Bool, true, false, not, ◌&&◌, ◌==◌, if◌then◌else◌, Option, Some, None}
-use Rattle.std.specs.List.{list_all, list_any}
-use Rattle.std.specs.Option.{option_to_list}
+use Rattle.std.specs.Prelude.{ℕ, ◌≡◌, List, [], ◌++◌, Bool, true, false, not, ◌&&◌, ◌==◌, if◌then◌else◌, find, Option, None}
+use Rattle.std.specs.List.{list_all, list_any, flat_map}
+use Rattle.std.specs.Option.{option_map, option_to_list}
 use Rattle.policy_text.specs.declared.clause.Clause.{Clause}
 use Rattle.policy_text.specs.declared.clause.Clause.TheVariants.{Src, Dst, Src6, Dst6}
 use Rattle.policy_text.specs.declared.clause.Match.{Match}
@@ -14,7 +14,6 @@ use Rattle.policy_lint.specs.declared.rule_line.RuleLine.{RuleLine}
 use Rattle.policy_lint.specs.declared.versions.Version.{Version}
 use Rattle.policy_lint.specs.declared.versions.Version.TheVariants.{Ipv4, Ipv6}
 use Rattle.policy_lint.specs.Firewalls.{is_firewall, is_empty, default_of}
-use Rattle.policy_lint.specs.Gathering.{gathered}
 use Rattle.policy_lint.specs.Rules.{rules_of}
 
 abbrev pub other_than : Version → Version
@@ -65,17 +64,31 @@ comes version before chain = not (asks_by (other_than version) chain.fit) && not
 abbrev pub is_alone : Version → List ChainPolicy → ChainPolicy → List RuleLine → Bool
 is_alone version before chain rules = denies_alone version rules && comes (other_than version) before chain
 
-abbrev pub told_alone : List ChainPolicy → ChainPolicy → ℕ → List RuleLine → Option Finding
-told_alone before chain line rules =
-    if is_alone Ipv4 before chain rules then Some (DeniesIpv4Alone line) else
-    if is_alone Ipv6 before chain rules then Some (DeniesIpv6Alone line) else None
+-- the rules of a firewall, none where it is none
+abbrev pub firewall_rules : FunctionDecl → List RuleLine
+firewall_rules decl = if is_firewall decl.kind then rules_of decl else []
 
--- of a firewall that lets pass what meets no rule
-abbrev pub alone_of : List ChainPolicy → ChainPolicy → FunctionDecl → Option Finding
-alone_of before chain decl = if is_firewall decl.kind && default_of decl then told_alone before chain decl.line (rules_of decl) else None
+-- the rules of all firewalls of a chain
+abbrev pub all_rules : List FunctionDecl → List RuleLine
+all_rules functions = flat_map firewall_rules functions
 
+-- a firewall that drops what meets none of its rules
+abbrev pub drops_rest : FunctionDecl → Bool
+drops_rest decl = is_firewall decl.kind && not (default_of decl)
+
+-- with the line of the firewall whose rule is the first that denies by this version
+abbrev pub told_version : Version → (ℕ → Finding) → List ChainPolicy → ChainPolicy → List RuleLine → Option Finding
+told_version version told before chain rules =
+    if is_alone version before chain rules then option_map (λ (r : RuleLine). told r.owner) (find (is_denied_by version) rules) else None
+
+abbrev pub told_alone : List ChainPolicy → ChainPolicy → List RuleLine → List Finding
+told_alone before chain rules =
+    option_to_list (told_version Ipv4 (λ line. DeniesIpv4Alone line) before chain rules)
+    ++ option_to_list (told_version Ipv6 (λ line. DeniesIpv6Alone line) before chain rules)
+
+-- of a chain each of whose firewalls lets pass what meets none of its rules
 abbrev pub alone_in : List ChainPolicy → ChainPolicy → List Finding
-alone_in before chain = gathered (λ others decl. option_to_list (alone_of before chain decl)) [] chain.functions
+alone_in before chain = if list_any drops_rest chain.functions then [] else told_alone before chain (all_rules chain.functions)
 
 -- a packet has no address of this version
 abbrev pub Lacks : Version → Seen → Type 0

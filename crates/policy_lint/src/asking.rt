@@ -1,7 +1,7 @@
 //! What asks for clauses, and what one before it leaves to it.
 ghost use Rattle.std.specs.Prelude.{◌≡◌, ◌++◌, [], OnOk};
 ghost use Rattle.std.specs.Option.{option_copied, option_to_list};
-ghost use Rattle.policy_lint.specs.Gathering.{Asking, cover_of, told_of, covered};
+ghost use Rattle.policy_lint.specs.Gathering.{Asking, told_if, cover_of, told_of, covered};
 
 use crate::covering::covers;
 use crate::finding::Finding;
@@ -58,6 +58,16 @@ pub fn push_one(found: &mut Items<Finding>, finding: Option<Finding>) -> Result<
     ensures { OnOk result (found.new ≡ found.old ++ option_to_list finding) }
 {
     if let Some(finding) = finding {
+        found.push(finding)?;
+    }
+    Ok(())
+}
+
+/// Adds a finding, where it is so.
+pub fn push_if(found: &mut Items<Finding>, is_so: bool, finding: Finding) -> Result<(), AllocError>
+    ensures { OnOk result (found.new ≡ found.old ++ told_if is_so finding) }
+{
+    if is_so {
         found.push(finding)?;
     }
     Ok(())

@@ -63,8 +63,8 @@ fn drops_at(alloc: Global, functions: &[FunctionDecl], place: u32) -> Result<boo
     }
 }
 
-// The line of the function at a place, 0 past the last.
-fn line_at(functions: &[FunctionDecl], place: u32) -> u32
+/// The line of the function at a place, 0 past the last.
+pub fn line_at(functions: &[FunctionDecl], place: u32) -> u32
     ensures { result ≡ line_at functions.now place }
 {
     match functions.get(place as usize) {
@@ -100,14 +100,15 @@ fn told_behind(functions: &[FunctionDecl], before: &[u32], place: u32) -> Option
     Some(Finding::LimiterBehind { line, by })
 }
 
-// Does the function at one of these places rewrite packets whole?
-fn has_whole(functions: &[FunctionDecl], places: &[u32]) -> bool
+/// Does the function at one of these places rewrite packets whole?
+pub fn has_whole(functions: &[FunctionDecl], places: &[u32]) -> bool
     ensures { result ≡ list_any (is_at is_whole functions.now) places.now }
 {
     places.iter().any(|place| is_whole_at(functions, *place))
 }
 
-fn is_whole_at(functions: &[FunctionDecl], place: u32) -> bool
+/// Does the function at a place rewrite packets whole?
+pub fn is_whole_at(functions: &[FunctionDecl], place: u32) -> bool
     ensures { result ≡ is_at is_whole functions.now place }
 {
     match functions.get(place as usize) {
@@ -144,7 +145,7 @@ fn limits_at(functions: &[FunctionDecl], place: u32) -> bool
     }
 }
 
-fn is_limiter(kind: Kind) -> bool
+pub fn is_limiter(kind: Kind) -> bool
     ensures { result ≡ is_limiter kind }
 {
     matches!(kind, Kind::Limiter)

@@ -48,14 +48,15 @@ fn implies(clause: &Clause, other: &Clause) -> bool
     }
 }
 
-// Does the prefix lie in the other?
-fn lies_in(prefix: u32, bits: u8, other: u32, count: u8) -> bool
+/// Does the prefix lie in the other?
+pub fn lies_in(prefix: u32, bits: u8, other: u32, count: u8) -> bool
     ensures { result ≡ lies_in prefix bits other count }
 {
     count <= bits && is_within(other, count, prefix)
 }
 
-fn lies_in6(prefix: u128, bits: u8, other: u128, count: u8) -> bool
+/// The same of IPv6.
+pub fn lies_in6(prefix: u128, bits: u8, other: u128, count: u8) -> bool
     ensures { result ≡ lies_in6 prefix bits other count }
 {
     count <= bits && is_within6(other, count, prefix)

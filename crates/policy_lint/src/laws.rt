@@ -1,11 +1,11 @@
 //! What findings are worth.
 
-ghost use Rattle.std.specs.Prelude.{◌≡◌, ◌≢◌, List, ◌++◌, ◌∷◌, Bool, length, Option, Some, position, true, false, All};
-ghost use Rattle.std.specs.List.{list_any};
+ghost use Rattle.std.specs.Prelude.{◌≡◌, ◌≢◌, List, ◌++◌, ◌∷◌, Bool, ℕ, ◌-◌, length, Option, Some, position, true, false, All};
+ghost use Rattle.std.specs.List.{list_any, list_all};
 ghost use Rattle.std.specs.Option.{option_map_or};
 ghost use Rattle.policy_text.specs.declared.clause.Match.{Match};
 ghost use Rattle.policy_text.specs.declared.seen.Seen.{Seen};
-ghost use Rattle.policy_text.specs.Meeting.{is_fitting};
+ghost use Rattle.policy_text.specs.Meeting.{is_within, is_fitting};
 ghost use Rattle.function_lines.specs.Rules.{first_met};
 ghost use Rattle.policy_text.specs.declared.policy.ChainPolicy.{ChainPolicy};
 ghost use Rattle.policy_check.specs.declared.fault.Order.{Order};
@@ -15,6 +15,8 @@ ghost use Rattle.policy_lint.specs.Firewalls.{drops_by};
 ghost use Rattle.policy_lint.specs.Findings.{findings};
 ghost use Rattle.policy_lint.specs.Implying.{covers};
 ghost use Rattle.policy_lint.specs.Meaning.{Means};
+ghost use Rattle.policy_lint.specs.Opposing.{clash, IsOfPacket};
+ghost use Rattle.policy_lint.specs.Spelling.{bits_past};
 ghost use Rattle.policy_lint.specs.Versions.{asks_by, Lacks};
 
 use function_lines::Fitting;
@@ -49,8 +51,24 @@ pub fn addresses_keep_to_their_version()
     ensures { (version : Version) → (fit : Match) → (seen : Seen) → asks_by version fit ≡ true → Lacks version seen → is_fitting fit seen ≡ false }
 {}
 
+/// A law: no packet meets clauses of which two exclude each other.
+pub fn clashing_clauses_are_never_met()
+    ensures { (fit : Match) → (seen : Seen) → clash fit ≡ true → IsOfPacket seen → is_fitting fit seen ≡ false }
+{}
+
+/// A law: of rules that all allow, the first that a packet meets lets it pass, and so does a default that allows.
+pub fn rules_that_allow_drop_none()
+    ensures { (rules : List RuleLine) → (seen : Seen) → list_all (λ (r : RuleLine). r.allow) rules ≡ true →
+        option_map_or (λ (r : RuleLine). r.allow) (first_met (λ (r : RuleLine). r.fit) seen rules) true ≡ true }
+{}
+
+/// A law: bits of a prefix past its length don't matter: it holds the addresses that it holds with these bits 0.
+pub fn bits_past_the_length_do_not_matter()
+    ensures { (prefix bits address : ℕ) → is_within (prefix - bits_past 32 bits prefix) bits address ≡ is_within prefix bits address }
+{}
+
 /// A law: each finding is true. Its lines are those of things of the policy, in their order, of which holds what it says:
 /// whatever meets the one meets the other, no packet passes the firewall before, and so on.
 pub fn findings_are_true()
-    ensures { (chains : List ChainPolicy) → (orders : List Order) → All (Means chains orders) (findings chains orders) }
+    ensures { (cuts : List Bool) → (chains : List ChainPolicy) → (orders : List Order) → All (Means cuts chains orders) (findings cuts chains orders) }
 {}

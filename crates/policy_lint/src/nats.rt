@@ -3,11 +3,12 @@ ghost use Rattle.std.specs.Prelude.{◌≡◌, ◌++◌, ◌==◌, find, filter_
 ghost use Rattle.std.specs.List.{flat_map};
 ghost use Rattle.std.specs.Option.{option_copied, option_to_list};
 ghost use Rattle.policy_text.specs.Values.{address_of, prefix_of, range_of};
-ghost use Rattle.policy_lint.specs.Nats.{sets, value_of, is_nat, nat_of, nats_of, inside_of, shares, shared_of, told_nats};
+ghost use Rattle.policy_lint.specs.Nats.{sets, value_of, is_nat, nat_of, nats_of, inside_of, shares, shared_of, is_loose, told_nat, told_nats};
 
-use crate::asking::push_one;
+use crate::asking::{push_if, push_one};
 use crate::finding::Finding;
 use crate::rule_line::word_of;
+use crate::spelling::bits_past;
 use action_profile::Kind;
 use item_list::Items;
 use policy_text::{ChainPolicy, FunctionDecl, Setting, address, is_within, prefix, range};
@@ -50,10 +51,24 @@ fn push_one_nat(
     before: &[NatLines],
     nat: NatLines,
 ) -> Result<(), AllocError>
-    ensures { OnOk result (found.new ≡ found.old ++ (option_to_list (inside_of nat) ++ option_to_list (shared_of before.now nat))) }
+    ensures { OnOk result (found.new ≡ found.old ++ told_nat before.now nat) }
 {
+    push_if(
+        found,
+        is_loose(nat),
+        Finding::BitsPastLength {
+            line: nat.inside_line,
+        },
+    )?;
     push_one(found, inside_of(nat))?;
     push_one(found, shared_of(before, nat))
+}
+
+// Has its prefix inside bits past its length that aren't 0?
+fn is_loose(nat: NatLines) -> bool
+    ensures { result ≡ is_loose nat }
+{
+    bits_past(nat.bits, nat.prefix) != 0
 }
 
 // All nats of the chains.
@@ -69,7 +84,8 @@ fn nats_of(alloc: Global, chains: &[ChainPolicy]) -> Result<Items<NatLines>, All
 }
 
 #[tactic(auto, using(crate::proofs::Steps::keeps_none, crate::proofs::Steps::keeps_all))]
-fn keep_nats(nats: &mut Items<NatLines>, functions: &[FunctionDecl]) -> Result<(), AllocError>
+/// Adds the nats of functions to others.
+pub fn keep_nats(nats: &mut Items<NatLines>, functions: &[FunctionDecl]) -> Result<(), AllocError>
     ensures { OnOk result (nats.new ≡ nats.old ++ filter_map nat_of functions.now) }
 {
     'functions: for place in 0..functions.len() {
@@ -93,7 +109,8 @@ fn is_nat(kind: Kind) -> bool
     matches!(kind, Kind::Nat)
 }
 
-fn nat_of(decl: &FunctionDecl) -> Option<NatLines>
+/// What the lines of a nat set, or nothing of another function.
+pub fn nat_of(decl: &FunctionDecl) -> Option<NatLines>
     ensures { result ≡ nat_of decl.now }
 {
     if !is_nat(decl.kind) {
@@ -138,8 +155,8 @@ fn ports_in(decl: &FunctionDecl) -> Option<(u32, (u16, u16))>
     Some((setting.line, value))
 }
 
-// The first `set` line of a key.
-fn setting_of<'a>(decl: &'a FunctionDecl, key: &[u8]) -> Option<&'a Setting>
+/// The first `set` line of a key.
+pub fn setting_of<'a>(decl: &'a FunctionDecl, key: &[u8]) -> Option<&'a Setting>
     ensures { option_copied result ≡ find (sets key.now) decl.now.settings }
 {
     decl.settings

@@ -16,6 +16,8 @@ use std::alloc::{AllocError, Global};
 pub struct RuleLine {
     /// Its line, counted from 1.
     pub line: u32,
+    /// The line of the `fn` that it belongs to.
+    pub owner: u32,
     /// Is it a firewall's that allows?
     pub allow: bool,
     /// The clauses that a packet has to meet.
@@ -41,18 +43,31 @@ impl Asks for RuleLine {
 }
 
 /// The rules of a function, in order.
-#[tactic(auto, using(crate::proofs::Steps::keeps_none, crate::proofs::Steps::keeps_more, crate::proofs::Steps::keeps_all))]
 pub fn rules_of(alloc: Global, decl: &FunctionDecl) -> Result<Items<RuleLine>, AllocError>
     ensures { IfOk result (λ rules. rules ≡ rules_of decl.now) }
 {
-    let kind = decl.kind;
-    let settings = decl.settings.as_slice();
     let mut rules = Items::new(Vec::new(alloc));
-    'settings: for place in 0..settings.len() {
-        let rule = rule_of(alloc, kind, &settings[place])?;
-        keep(&mut rules, rule)?;
-    }
+    keep_rules(alloc, &mut rules, decl)?;
     Ok(rules)
+}
+
+/// Adds the rules of a function to others.
+#[tactic(auto, using(crate::proofs::Steps::keeps_none, crate::proofs::Steps::keeps_more, crate::proofs::Steps::keeps_all))]
+pub fn keep_rules(
+    alloc: Global,
+    rules: &mut Items<RuleLine>,
+    decl: &FunctionDecl,
+) -> Result<(), AllocError>
+    ensures { OnOk result (rules.new ≡ rules.old ++ rules_of decl.now) }
+{
+    let kind = decl.kind;
+    let owner = decl.line;
+    let settings = decl.settings.as_slice();
+    'settings: for place in 0..settings.len() {
+        let rule = rule_of(alloc, kind, owner, &settings[place])?;
+        keep(rules, rule)?;
+    }
+    Ok(())
 }
 
 // Keeps the rule, where there is one.
@@ -66,14 +81,24 @@ fn keep(rules: &mut Items<RuleLine>, rule: Option<RuleLine>) -> Result<(), Alloc
 }
 
 // The rule that a line is, where it is one.
-fn rule_of(alloc: Global, kind: Kind, setting: &Setting) -> Result<Option<RuleLine>, AllocError>
-    ensures { IfOk result (λ rule. rule ≡ rule_of kind setting.now) }
+fn rule_of(
+    alloc: Global,
+    kind: Kind,
+    owner: u32,
+    setting: &Setting,
+) -> Result<Option<RuleLine>, AllocError>
+    ensures { IfOk result (λ rule. rule ≡ rule_of kind owner setting.now) }
 {
     let words = setting.words.as_slice();
     let line = setting.line;
     let allow = word_of(words, 1) == b"allow".as_slice();
     let fit = rule_fit(alloc, kind, words)?;
-    Ok(fit.map(|fit| RuleLine { line, allow, fit }))
+    Ok(fit.map(|fit| RuleLine {
+        line,
+        owner,
+        allow,
+        fit,
+    }))
 }
 
 /// A word of a line, none past its end.

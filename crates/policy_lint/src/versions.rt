@@ -1,13 +1,16 @@
 //! Firewalls that deny by addresses of one version of IP alone.
-ghost use Rattle.std.specs.Prelude.{◌≡◌, ◌++◌, OnOk, IfOk};
+ghost use Rattle.std.specs.Prelude.{◌≡◌, ◌++◌, find, OnOk, IfOk};
 ghost use Rattle.std.specs.List.{list_all, list_any};
+ghost use Rattle.std.specs.Option.{option_copied};
 ghost use Rattle.policy_text.specs.declared.policy.ChainPolicy.{ChainPolicy};
-ghost use Rattle.policy_lint.specs.Versions.{other_than, is_of, takes_all, asks_by, is_denied_by, denies_by, names, has_open, denies_alone, comes, is_alone, told_alone, alone_of, alone_in};
+ghost use Rattle.policy_lint.specs.Versions.{other_than, is_of, takes_all, asks_by, is_denied_by, denies_by, names, has_open, denies_alone, comes, is_alone, firewall_rules, all_rules, drops_rest, told_version, alone_in};
+ghost use Rattle.policy_lint.specs.declared.finding.Finding.TheVariants.{DeniesIpv4Alone, DeniesIpv6Alone};
+ghost use Rattle.policy_lint.specs.declared.versions.Version.TheVariants.{Ipv4, Ipv6};
 
 use crate::asking::push_one;
 use crate::finding::Finding;
 use crate::firewalls::{default_of, is_empty, is_firewall};
-use crate::rule_line::{RuleLine, rules_of};
+use crate::rule_line::{RuleLine, keep_rules};
 use item_list::Items;
 use policy_text::{ChainPolicy, Clause, FunctionDecl, Match};
 use std::alloc::{AllocError, Global};
@@ -19,9 +22,8 @@ pub enum Version {
     Ipv6,
 }
 
-/// Adds the firewalls of a chain, behind these chains, that deny by addresses of one version alone, though packets of the other
-/// come to them.
-#[tactic(auto, using(crate::proofs::Steps::begins, crate::proofs::Steps::ends))]
+/// Adds the first firewall of a chain, after these chains, that denies by addresses of one version alone, where none of its chain
+/// names the other, though packets of the other come to them.
 pub fn push_alone(
     alloc: Global,
     found: &mut Items<Finding>,
@@ -31,44 +33,81 @@ pub fn push_alone(
     ensures { OnOk result (found.new ≡ found.old ++ alone_in before.now chain.now) }
 {
     let functions = chain.functions.as_slice();
-    'functions: for place in 0..functions.len() {
-        let finding = alone_of(alloc, before, chain, &functions[place])?;
-        push_one(found, finding)?;
+    if has_rest(functions) {
+        return Ok(());
     }
-    Ok(())
+    let rules = all_rules(alloc, functions)?;
+    let rules = rules.as_slice();
+    push_one(found, told_alone4(before, chain, rules))?;
+    push_one(found, told_alone6(before, chain, rules))
 }
 
-fn alone_of(
-    alloc: Global,
-    before: &[ChainPolicy],
-    chain: &ChainPolicy,
-    decl: &FunctionDecl,
-) -> Result<Option<Finding>, AllocError>
-    ensures { IfOk result (λ finding. finding ≡ alone_of before.now chain.now decl.now) }
+// Does a firewall of these drop what meets none of its rules?
+fn has_rest(functions: &[FunctionDecl]) -> bool
+    ensures { result ≡ list_any drops_rest functions.now }
 {
-    if is_firewall(decl.kind) && default_of(decl) {
-        let rules = rules_of(alloc, decl)?;
-        Ok(told_alone(before, chain, decl.line, rules.as_slice()))
+    functions.iter().any(|decl| drops_rest(decl))
+}
+
+fn drops_rest(decl: &FunctionDecl) -> bool
+    ensures { result ≡ drops_rest decl.now }
+{
+    is_firewall(decl.kind) && !default_of(decl)
+}
+
+// The rules of all firewalls.
+#[tactic(auto, using(crate::proofs::Steps::rules_more))]
+fn all_rules(alloc: Global, functions: &[FunctionDecl]) -> Result<Items<RuleLine>, AllocError>
+    ensures { IfOk result (λ rules. rules ≡ all_rules functions.now) }
+{
+    let mut rules = Items::new(Vec::new(alloc));
+    'functions: for place in 0..functions.len() {
+        keep_firewall(alloc, &mut rules, &functions[place])?;
+    }
+    Ok(rules)
+}
+
+fn keep_firewall(
+    alloc: Global,
+    rules: &mut Items<RuleLine>,
+    decl: &FunctionDecl,
+) -> Result<(), AllocError>
+    ensures { OnOk result (rules.new ≡ rules.old ++ firewall_rules decl.now) }
+{
+    if is_firewall(decl.kind) {
+        keep_rules(alloc, rules, decl)
     } else {
-        Ok(None)
+        Ok(())
     }
 }
 
-fn told_alone(
-    before: &[ChainPolicy],
-    chain: &ChainPolicy,
-    line: u32,
-    rules: &[RuleLine],
-) -> Option<Finding>
-    ensures { result ≡ told_alone before.now chain.now line rules.now }
+fn told_alone4(before: &[ChainPolicy], chain: &ChainPolicy, rules: &[RuleLine]) -> Option<Finding>
+    ensures { result ≡ told_version Ipv4 (λ line. DeniesIpv4Alone line) before.now chain.now rules.now }
 {
     if is_alone(Version::Ipv4, before, chain, rules) {
-        Some(Finding::DeniesIpv4Alone { line })
-    } else if is_alone(Version::Ipv6, before, chain, rules) {
-        Some(Finding::DeniesIpv6Alone { line })
+        let rule = first_denying(Version::Ipv4, rules)?;
+        Some(Finding::DeniesIpv4Alone { line: rule.owner })
     } else {
         None
     }
+}
+
+fn told_alone6(before: &[ChainPolicy], chain: &ChainPolicy, rules: &[RuleLine]) -> Option<Finding>
+    ensures { result ≡ told_version Ipv6 (λ line. DeniesIpv6Alone line) before.now chain.now rules.now }
+{
+    if is_alone(Version::Ipv6, before, chain, rules) {
+        let rule = first_denying(Version::Ipv6, rules)?;
+        Some(Finding::DeniesIpv6Alone { line: rule.owner })
+    } else {
+        None
+    }
+}
+
+// The first rule that denies by an address of the version.
+fn first_denying(version: Version, rules: &[RuleLine]) -> Option<&RuleLine>
+    ensures { option_copied result ≡ find (is_denied_by version) rules.now }
+{
+    rules.iter().find(|rule| is_denied_by(version, rule))
 }
 
 fn is_alone(
@@ -123,7 +162,8 @@ fn has_open(rules: &[RuleLine]) -> bool
         .any(|rule| is_empty(rule.fit.clauses.as_slice()))
 }
 
-fn asks_by(version: Version, fit: &Match) -> bool
+/// Does a clause ask for an address of the version?
+pub fn asks_by(version: Version, fit: &Match) -> bool
     ensures { result ≡ asks_by version fit.now }
 {
     fit.clauses
@@ -166,7 +206,8 @@ fn is_of(version: Version, clause: &Clause) -> bool
     }
 }
 
-fn takes_all(version: Version, clause: &Clause) -> bool
+/// Does the clause take all addresses of the version?
+pub fn takes_all(version: Version, clause: &Clause) -> bool
     ensures { result ≡ takes_all version clause.now }
 {
     match (version, *clause) {
