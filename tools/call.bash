@@ -33,5 +33,7 @@ call_program() { # PROGRAM WORD..
     # to a tenth less, for at most 2 to 3 MiB of memory. Up to 64 MiB that a burst freed stay with the program for the next burst, and so do
     # lists of up to 32 MiB. A setting of the user's own is kept.
     export GLIBC_TUNABLES=${GLIBC_TUNABLES-glibc.malloc.tcache_count=2000:glibc.malloc.trim_threshold=67108864:glibc.malloc.mmap_threshold=33554432}
+    # Past a limit on the size of files a write fails then, and the program says which file, in place of a signal that ends it.
+    trap '' XFSZ
     exec "$@"
 }
