@@ -96,7 +96,8 @@ fn odd_clauses_are_found(rt: HostRuntime) {
     finds(&rt, alloc, ports, &[Finding::ClausesClash { line: 4 }]);
     let versions = "nfp 1\nchain a match src 10.0.0.1 dst ::1\n";
     finds(&rt, alloc, versions, &[Finding::ClausesClash { line: 2 }]);
-    let bits = "nfp 1\nchain a match src 10.1.2.3/8\nfn t tagger\nrule vid 7 pcp 0 src ::1/64\n";
+    let bits =
+        "nfp 1\nchain a match src 10.1.2.3/8\nfn t tagger\nrule vid 7 pcp 0 src 10.1.0.1/24\n";
     let chain = Finding::BitsPastLength { line: 2 };
     finds(
         &rt,
