@@ -50,7 +50,7 @@ pub enum Question {
 }
 
 /// What the first word asks for. `None` if the words are for the call.
-pub fn question(words: &[String]) -> Option<Question> {
+pub fn question_in(words: &[String]) -> Option<Question> {
     match words.first()?.as_str() {
         "--help" | "-h" | "help" => Some(Question::Help),
         "--version" => Some(Question::Version),

@@ -16,7 +16,7 @@ mod build;
 mod help;
 mod odd;
 
-use asked::{answer, question};
+use asked::{answer, question_in};
 use file_desk::{FileDesk, Reason};
 use help::tell_more;
 use nfp_outside::{OpenGate, Slot};
@@ -40,7 +40,7 @@ fn main(rt: HostRuntime) -> ExitCode {
     );
     let words = command_line(&rt);
     if let Ok(words) = &words {
-        if let Some(question) = question(words) {
+        if let Some(question) = question_in(words) {
             return ExitCode::from(answer(&rt, question).status());
         }
     }
