@@ -66,7 +66,7 @@ def covers(earlier, later):
 
 
 def covered(name, things):
-    """What stands behind what covers it, with the first that does. A thing is a line and clauses."""
+    """What comes after what covers it, with the first that does. A thing is a line and clauses."""
     for at, (line, clauses) in enumerate(things):
         before = next((other for other, earlier in things[:at] if covers(earlier, clauses)), None)
         if before is not None:
@@ -242,14 +242,14 @@ def one_version(chains, at):
 
 
 def unreached(walk):
-    """The functions behind the first that drops each packet."""
+    """The functions after the first that drops each packet."""
     dropper = next((at for at, function in enumerate(walk) if drops_all(function)), len(walk))
     for function in walk[dropper + 1 :]:
         yield Finding('never-reached', function.line, walk[dropper].line)
 
 
 def limited(walk):
-    """The limiters behind the first function that writes sources, where none before them rewrites packets whole, so that another source may be seen behind it."""
+    """The limiters after the first function that writes sources, if none before them rewrites packets whole, so that another source may be seen after it."""
     for at, function in enumerate(walk):
         writer = next((other for other in walk[:at] if 'src' in policy_rules.KINDS[other.kind][1].split()), None)
         if function.kind == 'limiter' and writer and not any(policy_rules.is_whole(other.kind) for other in walk[:at]):

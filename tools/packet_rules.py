@@ -2,8 +2,8 @@
 
 It is a second account of what the program is proved to do, and shares nothing with it. A packet walks through the
 functions of its chain one after another; no stage or branch plays a part, but for the copies that a plan costs.
-Before and behind one that rewrites it whole its checksums follow what was written, and it is seen anew.
-docs/POLICY.md says the same in words. How captures are read and written stands in capture_rules.py.
+Before and after one that rewrites it whole its checksums follow what was written, and it is seen anew.
+docs/POLICY.md says the same in words. How captures are read and written is in capture_rules.py.
 """
 
 import functools
@@ -28,14 +28,14 @@ class Header(typing.NamedTuple):
 
     version: int
     begin: int
-    size: int  # of the IP header, as it tells it
+    size: int  # of the IP header, as it states it
     proto: typing.Optional[int]  # None where it wasn't captured
     length: typing.Optional[int]  # of the packet with its header, None where it wasn't captured or takes more than 16 bits
     transport: typing.Optional[int]  # None where there is none, as in a later fragment
     end: int  # of what was captured of the packet
 
 
-# Where the fields of an IP header stand in it, and their sizes (RFC 791, 3.1; RFC 8200, 3).
+# Where the fields of an IP header are in it, and their sizes (RFC 791, 3.1; RFC 8200, 3).
 PLACES = {
     4: {'tos': (1, 1), 'ttl': (8, 1), 'src': (12, 4), 'dst': (16, 4)},
     6: {'ttl': (7, 1), 'src': (8, 16), 'dst': (24, 16)},
@@ -44,7 +44,7 @@ PROTO = {4: 9, 6: 6}
 
 
 def type_place(frame):
-    """Where the type of Ethernet stands, behind all tags, or None in a runt."""
+    """Where the type of Ethernet is, after all tags, or None in a runt."""
     if len(frame) < 14:
         return None
     place = 12
@@ -54,14 +54,14 @@ def type_place(frame):
 
 
 def version_of(kind, first):
-    """The version of the IP header that begins with this byte behind this type of Ethernet, or None: IPv4's has at least five words."""
+    """The version of the IP header that begins with this byte after this type of Ethernet, or None: IPv4's has at least five words."""
     if kind == b'\x08\x00' and b'\x45' <= first <= b'\x4f':
         return 4
     return 6 if kind == b'\x86\xdd' and b'\x60' <= first <= b'\x6f' else None
 
 
 def header_of(frame, place):
-    """The headers of a frame, or None where it has no IP header. Its type of Ethernet stands at this place."""
+    """The headers of a frame, or None if it has no IP header. Its type of Ethernet is at this place."""
     version = None if place is None else version_of(frame[place : place + 2], frame[place + 2 : place + 3])
     if version is None:
         return None
@@ -79,7 +79,7 @@ def header_of(frame, place):
 
 
 def data_offset(frame, header):
-    """The byte of a TCP header that tells where its data begin, or None where there is none."""
+    """The byte of a TCP header that says where its data begin, or None if there is none."""
     if header is None or header.transport is None or header.proto != TCP or header.transport + 12 >= header.end:
         return None
     return frame[header.transport + 12]
@@ -113,7 +113,7 @@ def places_of(size, behind_tags, header, offset):
 
 
 def payload_place(header, offset):
-    """Where the data behind the header of TCP or UDP begin, or None where the header doesn't say it."""
+    """Where the data after the header of TCP or UDP begin, or None if the header doesn't say it."""
     if header.proto == UDP:
         return header.transport + 8
     return None if offset is None or offset >> 4 < 5 else header.transport + 4 * (offset >> 4)
@@ -244,7 +244,7 @@ def put_sum(frame, at, value):
 
 @functools.lru_cache(65536)
 def told(address):
-    """The bytes of an address as a report tells it: that of IPv6 as eight groups, none of them left out."""
+    """The bytes of an address as a report prints it: that of IPv6 as eight groups, none of them left out."""
     return '.'.join(map(str, address)) if len(address) == 4 else ':'.join(f'{group:x}' for group in words_of(address))
 
 
@@ -259,14 +259,14 @@ class Cause(typing.NamedTuple):
     lines: tuple = ()  # of the policy, those that decided
 
 
-# The reasons. Behind the first three stand lines, but for a default that no line tells.
+# The reasons. The first three are followed by lines, but for a default that no line states.
 RULE, DEFAULT, PATTERN = 'rule', 'default', 'pattern'
 NO_PORT, NOBODY, NO_TOKENS, NO_HOPS = 'no port left', 'a port that nobody has', 'no tokens', 'time to live'
 NOTHING = Cause('nothing')
 
 
 class Function:
-    """What all kinds have: the cause of the last step, where it is told."""
+    """What all kinds have: the cause of the last step, if it is noted."""
 
     cause = NOTHING
 
@@ -749,7 +749,7 @@ def answer(policy, data, graphs=None):
 
 
 def answered(chains, capture, fates, fault):
-    """What is written where these are the fates of the packets that stand before the fault of a capture, where it has any."""
+    """What is written if these are the fates of the packets before the fault of a capture, if it has one."""
     emitted = [fate.frame if fate.drop is None else None for fate in fates]
     dropped = emitted.count(None)
     total = f'records {len(fates)} emitted {len(fates) - dropped} dropped {dropped}'

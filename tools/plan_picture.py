@@ -2,9 +2,9 @@
 
 It shows what tools/plan-to-dot shows, and needs no Graphviz: so the pictures of the examples are the same wherever they are
 made, and can be compared. A chain is a box, in which packets go from left to right; a stage is a box of its branches, which
-may be at work side by side; the functions of a branch come one after another. Over the way into a stage stands what is
-copied there for one packet; a viewer that shows titles tells all fields of a stage when you point at it. With the policy, it says
-beside each chain which packets enter, and below the branches of a stage how the fields are handed on and why the branches stand so.
+may be at work side by side; the functions of a branch come one after another. Over the way into a stage is what is
+copied there for one packet; a viewer that shows titles lists all fields of a stage when you point at it. With the policy, it says
+beside each chain which packets enter, and below the branches of a stage how the fields are passed on and why the branches are so.
 """
 
 import typing
@@ -22,15 +22,15 @@ WAY = 44  # from one thing to the next
 class Stage(typing.NamedTuple):
     branches: list  # of the names of functions
     parts: list  # field and how it is handed on
-    why: list  # the lines that a policy tells of it
+    why: list  # the lines that a policy adds to it
 
     def copies(self):
-        """What stands over the way into it, line by line."""
+        """What is over the way into it, line by line."""
         copies = [f"{field} ×{mode.split()[1]}" for field, mode in self.parts if mode.startswith('copied ')]
         return ['copied:', *copies] if copies else []
 
     def lines(self, is_told):
-        """What stands below its branches."""
+        """What is below its branches."""
         if not is_told:
             return []
         return [*plan_reasons.part_lines([(field, mode.split()) for field, mode in self.parts]), *self.why]
@@ -136,7 +136,7 @@ ARROW = '<marker id="head" viewBox="0 0 8 8" refX="8" refY="4" markerWidth="7" m
 
 
 def svg_of(plan, label=lambda chain, name: name, policy=None):
-    """The picture of a plan. A function is told by what the label says of its chain's name and its own. The policy, where it is
+    """The picture of a plan. A function is found by what the label says of its chain's name and its own. The policy, where it is
     given, is the text of which this is the plan."""
     graphs = {chain.name: chain.graph() for chain in plan_texts.chains_of(plan.splitlines())}
     said, left = plan_reasons.told(policy, graphs) if policy else ({}, None)

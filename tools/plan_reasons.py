@@ -1,5 +1,5 @@
-"""What a policy says of the picture of its plan: which packets enter a chain, how a stage hands on the fields, and why its functions stand one
-behind another or side by side. tools/plan-to-dot and plan_picture.py write it into their pictures.
+"""What a policy says of the picture of its plan: which packets enter a chain, how a stage passes the fields on, and why its functions come one
+after another or side by side. tools/plan-to-dot and plan_picture.py write it into their pictures.
 """
 
 import itertools
@@ -46,7 +46,7 @@ def clause_text(lead, value):
 
 
 def takes_all(chains):
-    """The first chain without clauses, behind which no packet comes."""
+    """The first chain without clauses, after which no packet comes."""
     return next((chain.name for chain in chains if not chain.clauses), None)
 
 
@@ -81,7 +81,7 @@ def part_text(fields, mode):
 
 
 def part_lines(parts):
-    """How the fields go to the branches, those together that go alike. A part is a field and the words behind it."""
+    """How the fields go to the branches, those together that go alike. A part is a field and the words after it."""
     alike = {}
     for field, mode in parts:
         alike.setdefault(tuple(mode), []).append(field)
@@ -94,7 +94,7 @@ def wrapped(lines):
         yield from textwrap.wrap(line, WIDEST, subsequent_indent=INDENT, break_long_words=False, break_on_hyphens=False) or ['']
 
 
-# Why functions stand as they do.
+# Why functions are where they are.
 
 
 def reads(kind):
@@ -118,7 +118,7 @@ def waiting_cause(first, second):
 
 
 def waiting_lines(name, others, kinds):
-    """Why a function stands behind others."""
+    """Why a function comes after others."""
     alike = {}
     for other in others:
         cause = waiting_cause(kinds[other], kinds[name])
@@ -172,7 +172,7 @@ def meetings(stage, order, kinds):
 
 
 def meeting_lines(fields, readers, writers, several):
-    """Why functions stand side by side that read and write the same fields."""
+    """Why functions are side by side that read and write the same fields."""
     names, came = ' '.join(fields), verb(fields, 'it came', 'they came')
     if readers:
         first = f'{listed(readers)} {verb(readers, "comes", "come")} first, and {verb(readers, "reads", "read")} {names} as {came}'
@@ -182,7 +182,7 @@ def meeting_lines(fields, readers, writers, several):
 
 
 def counting_lines(stage, order, kinds):
-    """Who counts what one before it, in another branch, lets pass, and who remembers what one behind it, in another branch, drops."""
+    """Who counts what one before it, in another branch, lets pass, and who remembers what one after it, in another branch, drops."""
     branch_of = {name: at for at, branch in enumerate(stage) for name in branch}
     for name in order:
         if name in branch_of and (has(kinds[name], 'state') or has(kinds[name], 'count')):
@@ -211,7 +211,7 @@ def beside_lines(stage, order, kinds):
 
 
 def why_lines(stages, order, kinds, by_hand):
-    """For each stage the lines that say why its functions stand so."""
+    """For each stage the lines that say why its functions are where they are."""
     for at, stage in enumerate(stages):
         before = stages[at - 1] if at else []
         behind = behind_by_hand(stage, at, before, order, kinds) if by_hand else behind_lines(stage, before, order, kinds)
