@@ -5,7 +5,7 @@ use Rattle.std.proofs.lemmas.Bool.{and_parts, cond_both, cases_lt, leb-true}
 use Rattle.std.proofs.lemmas.List.{take_all, append_assoc, append-nil}
 use Rattle.std.proofs.lemmas.Option.{cond_some}
 use Rattle.packet_fields.specs.Frames.{word}
-use Rattle.packet_fields.specs.Packets.{in_header, is_ipv4, is_ipv6, header_len, has_transport, is_udp, segment_at, datagram_end, data_span, header_sum_at, checksum_at, segment_sum_at}
+use Rattle.packet_fields.specs.Packets.{in_header, is_ipv4, is_ipv6, header_len, has_transport, is_udp, segment_at, datagram_end, summed_span, header_sum_at, checksum_at, segment_sum_at}
 use Rattle.packet_fields.specs.Fields.{bytes_at}
 use Rattle.packet_fields.specs.Checksums.{words, word_bytes, folded, is_changed, change_sum, adjusted, header_words, segment_words, word_put, header_sealed, segment_checksum, segment_sealed}
 use Rattle.packet_fields.specs.Changes.{IsChange, header_bytes, segment_bytes, applied, checksum_after}
@@ -168,14 +168,14 @@ addresses_at-same p q six = ap (λ (b : Bool). addresses_by b) six
 abbrev pub addresses_in : HeaderFormat → Span
 addresses_in f = record { at = f.src_ip; len = 2 * f.address_len }
 
-pub segment_is_sealed : (p q after : List ℕ) (at checksum : ℕ) (change : Change) (addresses : Span) (payload : Option Span) (start : ℕ) → segment_sum_at p ≡ Some at → is_ipv6 p ≡ is_ipv6 q → header_len p ≡ header_len q → data_span p ≡ data_span q
-    → start ≡ segment_at p → addresses ≡ addresses_at p → payload ≡ data_span p → IsChange (segment_bytes addresses start payload p) (segment_bytes addresses start payload q) change
+pub segment_is_sealed : (p q after : List ℕ) (at checksum : ℕ) (change : Change) (addresses : Span) (payload : Option Span) (start : ℕ) → segment_sum_at p ≡ Some at → is_ipv6 p ≡ is_ipv6 q → header_len p ≡ header_len q
+    → start ≡ segment_at p → addresses ≡ addresses_at p → payload ≡ summed_span p → IsChange (segment_bytes addresses start payload p) (segment_bytes addresses start payload q) change
     → checksum ≡ checksum_after (is_udp p) (word p at) change → after ≡ overwritten at (word_bytes checksum) q → after ≡ segment_sealed p q
-segment_is_sealed p q after at checksum change addresses payload start is_at six same_h same_data is_start is_addresses is_payload changed is_sum is_after =
+segment_is_sealed p q after at checksum change addresses payload start is_at six same_h is_start is_addresses is_payload changed is_sum is_after =
     let s = has_sum p at is_at in
-    let old : words (segment_bytes addresses start payload p) ≡ segment_words p = cong3 (λ (a : Span) (n : ℕ) (o : Option Span). words (segment_bytes a n o p)) is_addresses is_start is_payload in
-    let new : words (segment_bytes addresses start payload q) ≡ segment_words q = cong3 (λ (a : Span) (n : ℕ) (o : Option Span). words (segment_bytes a n o q)) (is_addresses ∙ addresses_at-same p q six) (is_start ∙ ap (λ (n : ℕ). n + 2) same_h) (is_payload ∙ same_data) in
-    let app : applied (word p at) change ≡ adjusted (word p (checksum_at p)) (segment_words p) (segment_words q) =
+    let old : words (segment_bytes addresses start payload p) ≡ segment_words (summed_span p) p = cong3 (λ (a : Span) (n : ℕ) (o : Option Span). words (segment_bytes a n o p)) is_addresses is_start is_payload in
+    let new : words (segment_bytes addresses start payload q) ≡ segment_words (summed_span p) q = cong3 (λ (a : Span) (n : ℕ) (o : Option Span). words (segment_bytes a n o q)) (is_addresses ∙ addresses_at-same p q six) (is_start ∙ ap (λ (n : ℕ). n + 2) same_h) is_payload in
+    let app : applied (word p at) change ≡ adjusted (word p (checksum_at p)) (segment_words (summed_span p) p) (segment_words (summed_span p) q) =
     applied-adjusted (segment_bytes addresses start payload p) (segment_bytes addresses start payload q) change (word p at) changed ∙ cong3 (λ (n : ℕ) (ms ns : List ℕ). adjusted (word p n) ms ns) s.place old new in
     let sum_is : checksum ≡ segment_checksum p q =
     is_sum ∙ cong2 (λ (w n : ℕ). if is_udp p then (if w == 0 then 0 else (if n == 0 then 0xffff else n)) else n) (ap (λ (n : ℕ). word p n) s.place) app in

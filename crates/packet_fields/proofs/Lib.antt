@@ -13,6 +13,7 @@ pub mod Laws
 pub mod Walk
 pub mod WordSums
 pub mod ChecksumSteps
+pub mod Summed
 pub mod Sealed
 pub mod Rightness
 pub mod RightSums

@@ -238,6 +238,7 @@ same_shape p q is = record {
   byte11 = λ _. ap (λ (xs : List ℕ). get_or xs 11 0) is;
   offset = λ _ _. ap (λ (xs : List ℕ). get_or xs (segment_at p + 12) 0) is;
   control = λ _ _. ap (λ (xs : List ℕ). get_or xs (segment_at p + 13) 0) is;
+  own_len = λ _ _. ap (λ (xs : List ℕ). word xs (segment_at p + 4)) is;
 }
 
 pub link_packet : (s : Span) (new frame : List ℕ) → length new ≡ s.len → s.at + s.len ≤ 12 → s.at + s.len ≤ length frame → packet (overwritten s.at new frame) ≡ packet frame

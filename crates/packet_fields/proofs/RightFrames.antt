@@ -1,9 +1,9 @@
 -- The sealed frame's checksums are right if the frame's were, and nothing but fields changed.
 use Rattle.std.proofs.Common.{◌≡◌, ◌≢◌, ◌≤◌, ◌<◌, ◌+◌, ◌-◌, ◌∙◌, ℕ, List, [], ◌∷◌, sum, length, take, drop, get_or, length-drop, Bool, true, false, ◌&&◌, ◌||◌, sym, ap, refl, arith, subst, ⊎_elim, inl, inr}
-use Rattle.std.specs.Prelude.{IfSome, Option, Some, None, IsSome, is_some, if◌then◌else◌, ◌==◌}
+use Rattle.std.specs.Prelude.{IfSome, Option, Some, None, IsSome, is_some, option_map, if◌then◌else◌, ◌==◌}
 use Rattle.std.proofs.lemmas.Bool.{and_from, or_left, or_right, or_cases, cases_lt, eq-eqb, false≢true}
 use Rattle.packet_fields.specs.Frames.{word, packet_at, packet, tags_of}
-use Rattle.packet_fields.specs.Packets.{is_ipv4, is_ipv6, has_header, header_len, segment_at, data_span, protocol, total_len, control_bits, header_sum_at, checksum_at, segment_sum_at}
+use Rattle.packet_fields.specs.Packets.{is_ipv4, is_ipv6, has_header, header_len, segment_at, summed_end, summed_span, protocol, total_len, control_bits, header_sum_at, checksum_at, segment_sum_at}
 use Rattle.packet_fields.specs.Fields.{bytes_at, span, packet_span}
 use Rattle.packet_fields.specs.Writing.{overwritten, put, Fits, put_some, written_in, all_fields, AllFit, rest_of}
 use Rattle.packet_fields.specs.Checksums.{folded, words, word_bytes, adjusted, header_words, word_put, header_sealed, segment_checksum, segment_sealed, same_span, same_number, has_same_version, has_same_places, packet_sealed, sealed, IsRight, IsBytes, header_of, HasRightSums}
@@ -12,7 +12,7 @@ use Rattle.packet_fields.specs.declared.field.Field.TheVariants.{LinkDst, LinkSr
 use Rattle.packet_fields.specs.declared.plan.Span.{Span}
 use Rattle.packet_fields.proofs.Overwriting.{cong2, bytes_before, bytes_behind}
 use Rattle.packet_fields.proofs.Versions.{numbers, transport_parts}
-use Rattle.packet_fields.proofs.Shapes.{SameShape, InBounds, bounds_at, inside_at, shape_kept, Apart, bytes_apart, packet_span-same, is_ipv6-same, SameHeader, same_header, has_transport-same, segment_at-same, is_udp-same, is_tcp-same, total_len-same, protocol-same, control_bits-same, header_sum_at-same, segment_sum_at-same}
+use Rattle.packet_fields.proofs.Shapes.{SameShape, InBounds, bounds_at, inside_at, shape_kept, Apart, bytes_apart, packet_span-same, is_ipv6-same, SameHeader, same_header, has_transport-same, segment_at-same, is_udp-same, is_tcp-same, total_len-same, protocol-same, control_bits-same, summed_end-same, summed_span-same, segment_len-same, header_sum_at-same, segment_sum_at-same}
 use Rattle.packet_fields.proofs.Framing.{parts}
 use Rattle.packet_fields.proofs.OverwrittenField.{lies_at, link_packet, writes_packet, InPacketAt}
 use Rattle.packet_fields.proofs.Puts.{puts_at, put_is, retagged, long_from_tags}
@@ -112,6 +112,7 @@ shape_back p q r one two =
       byte11 = λ four. sym (two.byte11 (six ∙ four)) ∙ one.byte11 four;
       offset = λ there not_udp. subst (λ (n : ℕ). get_or q (n + 12) 0 ≡ get_or r (n + 12) 0) a (sym (two.offset (sym tq ∙ (t ∙ there)) (sym uq ∙ (u ∙ not_udp)))) ∙ one.offset there not_udp;
       control = λ there tcp. subst (λ (n : ℕ). get_or q (n + 13) 0 ≡ get_or r (n + 13) 0) a (sym (two.control (sym tq ∙ (t ∙ there)) (sym cq ∙ (c ∙ tcp)))) ∙ one.control there tcp;
+      own_len = λ there udp. subst (λ (n : ℕ). word q (n + 4) ≡ word r (n + 4)) a (sym (two.own_len (sym tq ∙ (t ∙ there)) (sym uq ∙ (u ∙ udp)))) ∙ one.own_len there udp;
     }
 
 -- frames that differ in nothing but their fields
@@ -176,7 +177,7 @@ first_apart DstIp p at s h b = let n = numbers p in inl (omega (arith, h.ends))
 first_apart SrcPort p at s h b = inl (omega (arith, h.far))
 first_apart DstPort p at s h b = inl (omega (arith, h.far))
 
-second_apart : (f : Field) (p : List ℕ) (at : ℕ) (s : Span) → HasSum p at → InBounds f p s → (f ≡ Payload → at + 2 + (head_end p (data_span p) - (at + 2)) ≤ s.at) → Apart s (record { at = at + 2; len = head_end p (data_span p) - (at + 2) })
+second_apart : (f : Field) (p : List ℕ) (at : ℕ) (s : Span) → HasSum p at → InBounds f p s → (f ≡ Payload → at + 2 + (head_end p (summed_span p) - (at + 2)) ≤ s.at) → Apart s (record { at = at + 2; len = head_end p (summed_span p) - (at + 2) })
 second_apart LinkDst p at s h b far = absurd b
 second_apart LinkSrc p at s h b far = absurd b
 second_apart Tag p at s h b far = absurd b
@@ -188,30 +189,34 @@ second_apart DstIp p at s h b far = let n = numbers p in inl (omega (arith, h.en
 second_apart SrcPort p at s h b far = inl (omega (arith, h.far, h.behind))
 second_apart DstPort p at s h b far = inl (omega (arith, h.far, h.behind))
 
-payload_end : (p : List ℕ) (at : ℕ) (f : Field) (s : Span) → HasSum p at → packet_span f p ≡ Some s → f ≡ Payload → at + 2 + (head_end p (data_span p) - (at + 2)) ≤ s.at
+payload_end : (p : List ℕ) (at : ℕ) (f : Field) (s : Span) → HasSum p at → packet_span f p ≡ Some s → f ≡ Payload → at + 2 + (head_end p (summed_span p) - (at + 2)) ≤ s.at
 payload_end p at f s h found is =
-    let here : data_span p ≡ Some s = ap (λ (g : Field). packet_span g p) (sym is) ∙ found in
-    let d = data_at_sum p at (Some s) h here in
+    let here : summed_span p ≡ Some (record { at = s.at; len = summed_end p - s.at }) = ap (λ (o : Option Span). option_map (λ s. record { at = s.at; len = summed_end p - s.at }) o) (ap (λ (g : Field). packet_span g p) (sym is) ∙ found) in
+    let d = data_at_sum p at (Some (record { at = s.at; len = summed_end p - s.at })) h here in
     let behind = d.behind in
-    let he : head_end p (data_span p) ≡ s.at = ap (λ (o : Option Span). head_end p o) here in
+    let he : head_end p (summed_span p) ≡ s.at = ap (λ (o : Option Span). head_end p o) here in
     omega (arith, behind, he)
 
-same_head : (before after : List ℕ) (at : ℕ) → rest_of before ≡ rest_of after → HasSum (packet before) at → SameHead (packet before) (packet after) at (data_span (packet before))
+same_head : (before after : List ℕ) (at : ℕ) → rest_of before ≡ rest_of after → HasSum (packet before) at → SameHead (packet before) (packet after) at (summed_span (packet before))
 same_head before after at same h =
     let p = packet before in
-    let header = same_header (packet before) (packet after) (same_rest_shape before after same) in
+    let shape = same_rest_shape before after same in
     record {
-      kind = header.kind;
-      total = header.total;
+      kind = (same_header (packet before) (packet after) shape).kind;
+      len = segment_len-same (packet before) (packet after) shape;
+      ends = summed_end-same (packet before) (packet after) shape;
+      covered = summed_span-same (packet before) (packet after) shape;
       first = same_rest_part before after (record { at = segment_at p + 4; len = at - (segment_at p + 4) }) same (λ f s found. first_apart f p at s h (bounds_at f p s found));
-      second = same_rest_part before after (record { at = at + 2; len = head_end p (data_span p) - (at + 2) }) same (λ f s found. second_apart f p at s h (bounds_at f p s found) (λ is. payload_end p at f s h found is));
+      second = same_rest_part before after (record { at = at + 2; len = head_end p (summed_span p) - (at + 2) }) same (λ f s found. second_apart f p at s h (bounds_at f p s found) (λ is. payload_end p at f s h found is));
     }
 
 -- sealing the header leaves what follows it
-head_behind : (p q : List ℕ) (at : ℕ) (o : Option Span) (n : ℕ) → 22 ≤ segment_at p → segment_at p + 6 ≤ at → 14 ≤ length q → SameHeader q (overwritten 12 (word_bytes n) q) → SameHead p q at o → SameHead p (overwritten 12 (word_bytes n) q) at o
-head_behind p q at o n far behind long header head = record {
-  kind = header.kind ∙ head.kind;
-  total = header.total ∙ head.total;
+head_behind : (p q : List ℕ) (at : ℕ) (o : Option Span) (n : ℕ) → 22 ≤ segment_at p → segment_at p + 6 ≤ at → 14 ≤ length q → SameShape q (overwritten 12 (word_bytes n) q) → SameHead p q at o → SameHead p (overwritten 12 (word_bytes n) q) at o
+head_behind p q at o n far behind long shape head = record {
+  kind = (same_header q (overwritten 12 (word_bytes n) q) shape).kind ∙ head.kind;
+  len = segment_len-same q (overwritten 12 (word_bytes n) q) shape ∙ head.len;
+  ends = summed_end-same q (overwritten 12 (word_bytes n) q) shape ∙ head.ends;
+  covered = summed_span-same q (overwritten 12 (word_bytes n) q) shape ∙ head.covered;
   first = bytes_behind 12 (word_bytes n) q (segment_at p + 4) (at - (segment_at p + 4)) long (omega arith) ∙ head.first;
   second = bytes_behind 12 (word_bytes n) q (at + 2) (head_end p o - (at + 2)) long (omega arith) ∙ head.second;
 }
@@ -254,19 +259,19 @@ header_head p q at o None is far behind head n = head
 header_head p q at o (Some k) is far behind head n =
     let h = header_sum_is q k is in
     let shape : SameShape q (overwritten 12 (word_bytes n) q) = subst (λ (j : ℕ). SameShape q (overwritten j (word_bytes n) q)) h.0 (header_put_keeps q (Some k) n is).shape in
-    subst (λ (j : ℕ). SameHead p (overwritten j (word_bytes n) q) at o) (sym h.0) (head_behind p q at o n far behind h.1 (same_header q (overwritten 12 (word_bytes n) q) shape) head)
+    subst (λ (j : ℕ). SameHead p (overwritten j (word_bytes n) q) at o) (sym h.0) (head_behind p q at o n far behind h.1 shape head)
 
-sealed_segment_right : (p q : List ℕ) → has_same_places p q ≡ true → SameShape p q → IsBytes p → RightPacket p → ((at : ℕ) → HasSum p at → SameHead p q at (data_span p)) → IsSome (segment_sum_at q) → IsRightSegment (segment_sealed p (header_sealed p q)) (checksum_at p)
+sealed_segment_right : (p q : List ℕ) → has_same_places p q ≡ true → SameShape p q → IsBytes p → RightPacket p → ((at : ℕ) → HasSum p at → SameHead p q at (summed_span p)) → IsSome (segment_sum_at q) → IsRightSegment (segment_sealed p (header_sealed p q)) (checksum_at p)
 sealed_segment_right p q test shape bytes right heads there =
     let same = same_places p q test in
     let at = some_at (segment_sum_at p) (ap (λ (o : Option ℕ). is_some o) same.segment_sum ∙ there) in
     let s = has_sum p at.0 at.1 in
     let is_at : segment_sum_at p ≡ Some (checksum_at p) = at.1 ∙ ap (λ (n : ℕ). Some n) s.place in
     let here = has_sum p (checksum_at p) is_at in
-    let head = header_head p q (checksum_at p) (data_span p) (header_sum_at p) (sym same.header_sum) here.far here.behind (heads (checksum_at p) here) (adjusted (word p 12) (header_words p) (header_words q)) in
+    let head = header_head p q (checksum_at p) (summed_span p) (header_sum_at p) (sym same.header_sum) here.far here.behind (heads (checksum_at p) here) (adjusted (word p 12) (header_words p) (header_words q)) in
     segment_stays_right p (header_sealed p q) is_at (after_header p q (header_sealed p q) test refl) bytes head (right.segment (ap (λ (o : Option ℕ). is_some o) is_at))
 
-right_sealed : (b : Bool) (p q : List ℕ) → has_same_places p q ≡ b → (has_header q ≡ true → b ≡ true) → SameShape p q → IsBytes p → RightPacket p → ((at : ℕ) → HasSum p at → SameHead p q at (data_span p)) → RightPacket (if b then segment_sealed p (header_sealed p q) else q)
+right_sealed : (b : Bool) (p q : List ℕ) → has_same_places p q ≡ b → (has_header q ≡ true → b ≡ true) → SameShape p q → IsBytes p → RightPacket p → ((at : ℕ) → HasSum p at → SameHead p q at (summed_span p)) → RightPacket (if b then segment_sealed p (header_sealed p q) else q)
 right_sealed false p q test must shape bytes right heads =
     record {
       header = λ there. let at = some_at (header_sum_at q) there in absurd (false≢true (must (or_left (is_ipv4 q) (is_ipv6 q) (header_sum_is q at.0 at.1).2)));

@@ -5,7 +5,7 @@ use Rattle.std.proofs.lemmas.Bool.{not-false as not_false, or_parts, cases_lt, c
 use Rattle.std.proofs.lemmas.List.{take-append-drop, get_or-drop}
 use Rattle.std.proofs.lemmas.List.Sums.{sum_by-cons, sum_by-append}
 use Rattle.packet_fields.specs.Frames.{word, packet_at, packet}
-use Rattle.packet_fields.specs.Packets.{is_udp, header_sum_at, checksum_at, segment_sum_at}
+use Rattle.packet_fields.specs.Packets.{is_udp, summed_span, header_sum_at, checksum_at, segment_sum_at}
 use Rattle.packet_fields.specs.Checksums.{words, word_bytes, folded, is_changed, change_sum, adjusted, header_words, segment_words, word_put, header_sealed, segment_checksum, segment_sealed, has_same_places, sealed, IsBytes}
 use Rattle.packet_fields.specs.Writing.{overwritten}
 use Rattle.packet_fields.proofs.Overwriting.{cong2, overwritten_own}
@@ -56,7 +56,8 @@ segment_own : (p : List ℕ) (o : Option ℕ) → segment_sum_at p ≡ o → IsB
 segment_own p None is bytes = refl
 segment_own p (Some at) is bytes =
     let s = has_sum p at is in
-    let own = kind_own (is_udp p) (word p (checksum_at p)) (adjusted (word p (checksum_at p)) (segment_words p) (segment_words p)) (adjusted_own (word p (checksum_at p)) (segment_words p)) in
+    let ws = segment_words (summed_span p) p in
+    let own = kind_own (is_udp p) (word p (checksum_at p)) (adjusted (word p (checksum_at p)) ws ws) (adjusted_own (word p (checksum_at p)) ws) in
     ap (λ (n : ℕ). overwritten at (word_bytes n) p) (own ∙ ap (λ (n : ℕ). word p n) (sym s.place)) ∙ word_put_own p at bytes (omega (arith, s.inside))
 
 packet_own : (b : Bool) (p : List ℕ) → IsBytes p → (if b then segment_sealed p (header_sealed p p) else p) ≡ p

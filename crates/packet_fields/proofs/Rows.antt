@@ -1,10 +1,10 @@
 -- Worked frames, computed.
 use Rattle.std.proofs.Common.{◌≡◌, ℕ, List, [], ◌∷◌, ◌++◌, length, replicate, Some, None, refl, take}
-use Rattle.packet_fields.specs.Frames.{tags_len}
+use Rattle.packet_fields.specs.Frames.{tags_len, packet}
 use Rattle.packet_fields.specs.Packets.{is_ipv4, is_ipv6, has_transport}
 use Rattle.packet_fields.specs.Fields.{value, ether_type, layout_of}
 use Rattle.packet_fields.specs.Writing.{with_tags, written_in, rest_of}
-use Rattle.packet_fields.specs.Checksums.{words, is_changed, change_sum, has_same_places, sealed}
+use Rattle.packet_fields.specs.Checksums.{words, is_changed, change_sum, has_same_places, sealed, IsRight, segment_of, pseudo_header}
 use Rattle.packet_fields.specs.declared.field.Field.TheVariants.{LinkSrc, Tag, Tos, Ttl, SrcIp, DstIp, SrcPort, DstPort, Payload}
 
 -- from 02:00:00:00:00:01 to 02:00:00:00:00:02
@@ -134,6 +134,44 @@ wrong_sum = refl
 no_sum : sealed (datagram inside port_1000 (0x66 ∷ 0xcf ∷ []) (0 ∷ 0 ∷ [])) (datagram outside port_40000 (0x66 ∷ 0xcf ∷ []) (0 ∷ 0 ∷ [])) ≡ datagram outside port_40000 (0xae ∷ 0xce ∷ []) (0 ∷ 0 ∷ [])
 unfolding tags_len is_ipv4 is_ipv6 has_transport words is_changed change_sum has_same_places
 no_sum = refl
+
+-- four bytes of data after a UDP header with a length of its own and a checksum
+abbrev counted : ℕ → List ℕ → List ℕ → List ℕ
+counted len sum payload = addresses ++ (header 0x45 32 0 17 (0x66 ∷ 0xcb ∷ []) inside ++ ((3 ∷ 0xe8 ∷ 0 ∷ 53 ∷ 0 ∷ len ∷ sum) ++ payload))
+
+abbrev abcd : List ℕ
+abcd = 0x61 ∷ 0x62 ∷ 0x63 ∷ 0x64 ∷ []
+
+-- the data goes up to the IP datagram's end, and the bytes under the checksum to the end that UDP's length gives
+data_behind : value Payload (counted 10 (0x86 ∷ 0x58 ∷ []) abcd) ≡ Some abcd
+unfolding tags_len is_ipv4 is_ipv6 has_transport
+data_behind = refl
+
+own_length_right : IsRight (pseudo_header (packet (counted 10 (0x86 ∷ 0x58 ∷ []) abcd)) ++ words (segment_of (packet (counted 10 (0x86 ∷ 0x58 ∷ []) abcd))))
+unfolding tags_len is_ipv4 is_ipv6 has_transport words
+own_length_right = refl
+
+within_length : sealed (counted 10 (0x86 ∷ 0x58 ∷ []) abcd) (counted 10 (0x86 ∷ 0x58 ∷ []) (0x78 ∷ 0x79 ∷ 0x63 ∷ 0x64 ∷ [])) ≡ counted 10 (0x6f ∷ 0x41 ∷ []) (0x78 ∷ 0x79 ∷ 0x63 ∷ 0x64 ∷ [])
+unfolding tags_len is_ipv4 is_ipv6 has_transport words is_changed change_sum has_same_places
+within_length = refl
+
+behind_length : sealed (counted 10 (0x86 ∷ 0x58 ∷ []) abcd) (counted 10 (0x86 ∷ 0x58 ∷ []) (0x61 ∷ 0x62 ∷ 0x78 ∷ 0x79 ∷ [])) ≡ counted 10 (0x86 ∷ 0x58 ∷ []) (0x61 ∷ 0x62 ∷ 0x78 ∷ 0x79 ∷ [])
+unfolding tags_len is_ipv4 is_ipv6 has_transport words is_changed change_sum has_same_places
+behind_length = refl
+
+-- an odd length: its last byte is the high byte of a word, and the byte after it counts no more
+odd_length : sealed (counted 9 (0x86 ∷ 0xbc ∷ []) abcd) (counted 9 (0x86 ∷ 0xbc ∷ []) (0x78 ∷ 0x79 ∷ 0x63 ∷ 0x64 ∷ [])) ≡ counted 9 (0x6f ∷ 0xbc ∷ []) (0x78 ∷ 0x79 ∷ 0x63 ∷ 0x64 ∷ [])
+unfolding tags_len is_ipv4 is_ipv6 has_transport words is_changed change_sum has_same_places
+odd_length = refl
+
+-- a length below that of the header, and one past the IP datagram's end: all the data counts
+short_length : sealed (counted 7 (0x12 ∷ 0x34 ∷ []) abcd) (counted 7 (0x12 ∷ 0x34 ∷ []) (0x61 ∷ 0x62 ∷ 0x78 ∷ 0x79 ∷ [])) ≡ counted 7 (0xfd ∷ 0x1e ∷ []) (0x61 ∷ 0x62 ∷ 0x78 ∷ 0x79 ∷ [])
+unfolding tags_len is_ipv4 is_ipv6 has_transport words is_changed change_sum has_same_places
+short_length = refl
+
+long_length : sealed (counted 99 (0x12 ∷ 0x34 ∷ []) abcd) (counted 99 (0x12 ∷ 0x34 ∷ []) (0x61 ∷ 0x62 ∷ 0x78 ∷ 0x79 ∷ [])) ≡ counted 99 (0xfd ∷ 0x1e ∷ []) (0x61 ∷ 0x62 ∷ 0x78 ∷ 0x79 ∷ [])
+unfolding tags_len is_ipv4 is_ipv6 has_transport words is_changed change_sum has_same_places
+long_length = refl
 
 -- the rest of a frame has no tags, and zeros for its fields
 rest : rest_of (with_tags two_tags plain) ≡ replicate 12 0 ++ (8 ∷ 0 ∷ 0x45 ∷ 0 ∷ 0 ∷ 28 ∷ 0 ∷ 0 ∷ 0 ∷ 0 ∷ 0 ∷ 17 ∷ 0x66 ∷ 0xcf ∷ replicate 12 0 ++ (0 ∷ 8 ∷ 0 ∷ 0 ∷ []))

@@ -4,7 +4,7 @@ use Rattle.std.specs.Prelude.{Option, Some, None, if◌then◌else◌, ◌==◌,
 use Rattle.std.proofs.lemmas.Bool.{and_parts, or_parts, or_from, cases_lt, cases_Bool, eqb-true, cond-true, cond-false, and_left, and_right, false≢true}
 use Rattle.std.proofs.lemmas.List.{append_assoc, take_at, take-append-drop}
 use Rattle.packet_fields.specs.Frames.{word, packet_at, packet, tags_of}
-use Rattle.packet_fields.specs.Packets.{is_ipv4, is_ipv6, has_header, header_len, is_udp, segment_at, data_span, header_sum_at, checksum_at, segment_sum_at}
+use Rattle.packet_fields.specs.Packets.{is_ipv4, is_ipv6, has_header, header_len, is_udp, segment_at, header_sum_at, checksum_at, segment_sum_at}
 use Rattle.packet_fields.specs.Plans.{header_plan_of, segment_plan_of}
 use Rattle.packet_fields.specs.Fields.{value, bytes_at, packet_span}
 use Rattle.packet_fields.specs.Checksums.{word_bytes, adjusted, header_words, word_put, header_sealed, segment_checksum, segment_sealed, same_span, same_number, same_header_plan, same_segment_plan, has_same_version, has_same_places, packet_sealed, sealed}
@@ -12,9 +12,8 @@ use Rattle.packet_fields.specs.Writing.{overwritten}
 use Rattle.packet_fields.specs.declared.field.Field.{Field}
 use Rattle.packet_fields.specs.declared.field.Field.TheVariants.{LinkDst, LinkSrc, Tag, Tos, Ttl, SrcIp, DstIp, SrcPort, DstPort, Payload}
 use Rattle.packet_fields.specs.declared.plan.Span.{Span}
-use Rattle.packet_fields.proofs.Overwriting.{cong2}
 use Rattle.packet_fields.proofs.Versions.{is_ipv4-alone, SameVersion, same_version, Numbers, numbers, segment_at-transport}
-use Rattle.packet_fields.proofs.Shapes.{SameShape, OutsideAll, outside_behind, shape_outside, InBounds, bounds_at, Apart, bytes_apart, packet_value, packet_span-same, is_ipv6-same, same_header, segment_at-same, has_transport-same, is_udp-same, is_tcp-same, data_span-same, segment_sum_at-same}
+use Rattle.packet_fields.proofs.Shapes.{SameShape, OutsideAll, outside_behind, shape_outside, InBounds, bounds_at, Apart, bytes_apart, packet_value, packet_span-same, is_ipv6-same, same_header, segment_at-same, has_transport-same, is_udp-same, is_tcp-same, segment_sum_at-same}
 use Rattle.packet_fields.proofs.ChecksumSteps.{header_sum_is, HasSum, has_sum}
 use Rattle.packet_fields.proofs.TagWalk.{packet_at-short}
 use Rattle.packet_fields.proofs.Framing.{framed, parts, HasParts}
@@ -26,20 +25,8 @@ pub record SamePlaces (p q : List ℕ) : Type 0 where
   pub version : SameVersion p q
   pub len : length p ≡ length q
   pub header : header_len p ≡ header_len q
-  pub payload : data_span p ≡ data_span q
   pub header_sum : header_sum_at p ≡ header_sum_at q
   pub segment_sum : segment_sum_at p ≡ segment_sum_at q
-
-span_parts : (s t : Span) → s.at ≡ t.at → s.len ≡ t.len → s ≡ t
-span_parts s t at len = cong2 {C = Span} (λ (a n : ℕ). record { at = a; len = n }) at len
-
-span_from : (a b : Option Span) → same_span a b ≡ true → a ≡ b
-span_from None None same = refl
-span_from None (Some t) same = absurd (false≢true same)
-span_from (Some s) None same = absurd (false≢true same)
-span_from (Some s) (Some t) same =
-    let both = and_parts (s.at == t.at) (s.len == t.len) same in
-    ap (λ (x : Span). Some x) (span_parts s t (eqb-true s.at t.at both.0) (eqb-true s.len t.len both.1))
 
 pub number_from : (a b : Option ℕ) → same_number a b ≡ true → a ≡ b
 number_from None None same = refl
@@ -56,12 +43,12 @@ last_of_header a b c d e f g a' b' c' d' test =
     let r5 = (and_parts e (f && g) r4).1 in
     (and_parts f g r5).1
 
-third_and_last : (x y z u v : Bool) → (x && (y && (z && (u && v)))) ≡ true → (z ≡ true) × (v ≡ true)
-third_and_last x y z u v test =
+last_of_five : (x y z u v : Bool) → (x && (y && (z && (u && v)))) ≡ true → v ≡ true
+last_of_five x y z u v test =
     let r1 = (and_parts x (y && (z && (u && v))) test).1 in
     let r2 = (and_parts y (z && (u && v)) r1).1 in
-    let r3 = and_parts z (u && v) r2 in
-    (r3.0, (and_parts u v r3.1).1)
+    let r3 = (and_parts z (u && v) r2).1 in
+    (and_parts u v r3).1
 
 pub same_places : (p q : List ℕ) → has_same_places p q ≡ true → SamePlaces p q
 unfolding has_same_places
@@ -77,14 +64,13 @@ same_places p q test =
     let sp = segment_plan_of p in
     let sq = segment_plan_of q in
     let last = last_of_header hp.tos hp.ttl hp.src_ip hp.dst_ip (same_number hp.proto hq.proto) (same_number hp.total_len hq.total_len) (same_number hp.sum_at hq.sum_at) hq.tos hq.ttl hq.src_ip hq.dst_ip e.0 in
-    let zs = third_and_last (same_span sp.src_port sq.src_port) (same_span sp.dst_port sq.dst_port) (same_span sp.payload sq.payload) (same_number sp.control_bits sq.control_bits) (same_number sp.sum_at sq.sum_at) e.1 in
+    let sums = last_of_five (same_span sp.src_port sq.src_port) (same_span sp.dst_port sq.dst_port) (same_span sp.payload sq.payload) (same_number sp.control_bits sq.control_bits) (same_number sp.sum_at sq.sum_at) e.1 in
     record {
       version = same_version p q a.0;
       len = eqb-true (length p) (length q) c.0;
       header = eqb-true (header_len p) (header_len q) d.0;
-      payload = span_from (data_span p) (data_span q) zs.0;
       header_sum = number_from (header_sum_at p) (header_sum_at q) last;
-      segment_sum = number_from (segment_sum_at p) (segment_sum_at q) zs.1;
+      segment_sum = number_from (segment_sum_at p) (segment_sum_at q) sums;
     }
 
 -- a checksum in its place
@@ -94,7 +80,7 @@ sum_span at = record { at = at; len = 2 }
 header_sum_outside : (p : List ℕ) → OutsideAll p (sum_span 12)
 header_sum_outside p =
     let n = numbers p in
-    outside_behind p (sum_span 12) (omega arith) (λ _. inl (omega arith)) (λ _. inl (omega arith)) (λ there _. let far = segment_at-transport p there in inr (omega arith)) (λ there _. let far = segment_at-transport p there in inr (omega arith))
+    outside_behind p (sum_span 12) (omega arith) (λ _. inl (omega arith)) (λ _. inl (omega arith)) (λ there _. let far = segment_at-transport p there in inr (omega arith)) (λ there _. let far = segment_at-transport p there in inr (omega arith)) (λ there _. let far = segment_at-transport p there in (inr (omega arith), inr (omega arith)))
 
 tcp_place : (p : List ℕ) → is_udp p ≡ false → checksum_at p ≡ segment_at p + 16
 tcp_place p not_udp = cond-false (is_udp p) (segment_at p + 6) (segment_at p + 16) not_udp
@@ -103,7 +89,7 @@ segment_sum_outside : (p : List ℕ) (at : ℕ) → HasSum p at → OutsideAll p
 segment_sum_outside p at s =
     let far = s.far in
     let behind = s.behind in
-    outside_behind p (sum_span at) (omega arith) (λ _. inl (omega arith)) (λ _. inl (omega arith)) (λ there tcp. inl (omega (arith, s.place, tcp_place p tcp))) (λ there tcp. inl (omega (arith, s.place, tcp_place p tcp)))
+    outside_behind p (sum_span at) (omega arith) (λ _. inl (omega arith)) (λ _. inl (omega arith)) (λ there tcp. inl (omega (arith, s.place, tcp_place p tcp))) (λ there tcp. inl (omega (arith, s.place, tcp_place p tcp))) (λ there udp. (inl (omega arith), inl (omega arith)))
 
 -- one checksum written in its place keeps the shape and the fields
 pub record KeepsFields (p q : List ℕ) : Type 0 where
@@ -111,7 +97,7 @@ pub record KeepsFields (p q : List ℕ) : Type 0 where
   pub values : (f : Field) → packet_value f q ≡ packet_value f p
 
 pub shape_refl : (p : List ℕ) → SameShape p p
-shape_refl p = record { len = refl; byte0 = refl; byte1 = refl; byte2 = refl; byte4 = refl; byte5 = refl; byte6 = refl; byte7 = refl; byte8 = refl; byte9 = λ _. refl; byte11 = λ _. refl; offset = λ _ _. refl; control = λ _ _. refl }
+shape_refl p = record { len = refl; byte0 = refl; byte1 = refl; byte2 = refl; byte4 = refl; byte5 = refl; byte6 = refl; byte7 = refl; byte8 = refl; byte9 = λ _. refl; byte11 = λ _. refl; offset = λ _ _. refl; control = λ _ _. refl; own_len = λ _ _. refl }
 
 same_packet : (p q : List ℕ) → q ≡ p → KeepsFields p q
 same_packet p q is = subst (λ (r : List ℕ). KeepsFields p r) (sym is) (record { shape = shape_refl p; values = λ f. refl })
@@ -183,7 +169,6 @@ pub record SameSegment (p q : List ℕ) : Type 0 where
   pub version : SameVersion p q
   pub len : length p ≡ length q
   pub header : header_len p ≡ header_len q
-  pub payload : data_span p ≡ data_span q
   pub segment_sum : segment_sum_at p ≡ segment_sum_at q
 
 pub after_header : (p q r : List ℕ) → has_same_places p q ≡ true → r ≡ header_sealed p q → SameSegment p r
@@ -196,7 +181,6 @@ after_header p q r test is =
       version = record { four = same.version.four ∙ sym h.four; six = same.version.six ∙ sym h.six; there = same.version.there };
       len = same.len ∙ sym shape.len;
       header = same.header ∙ sym h.header;
-      payload = same.payload ∙ sym (data_span-same q r shape);
       segment_sum = same.segment_sum ∙ sym (segment_sum_at-same q r shape);
     }
 
@@ -220,6 +204,7 @@ shape_trans p q r one two =
       byte11 = λ four. two.byte11 (six ∙ four) ∙ one.byte11 four;
       offset = λ there not_udp. subst (λ (n : ℕ). get_or r (n + 12) 0 ≡ get_or q (n + 12) 0) a (two.offset (t ∙ there) (u ∙ not_udp)) ∙ one.offset there not_udp;
       control = λ there tcp. subst (λ (n : ℕ). get_or r (n + 13) 0 ≡ get_or q (n + 13) 0) a (two.control (t ∙ there) (is_tcp-same p q one ∙ tcp)) ∙ one.control there tcp;
+      own_len = λ there udp. subst (λ (n : ℕ). word r (n + 4) ≡ word q (n + 4)) a (two.own_len (t ∙ there) (u ∙ udp)) ∙ one.own_len there udp;
     }
 
 -- sealing a packet keeps its shape and its fields

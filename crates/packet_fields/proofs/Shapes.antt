@@ -4,7 +4,8 @@ use Rattle.std.specs.Prelude.{Option, Some, None, IfSome, ⊤, if◌then◌else�
 use Rattle.std.proofs.lemmas.Bool.{and_parts, leb-true, eqb-true, false≢true}
 use Rattle.std.proofs.lemmas.Option.{MatchOption-at_some}
 use Rattle.packet_fields.specs.Frames.{word}
-use Rattle.packet_fields.specs.Packets.{span_within, in_header, header_byte, is_ipv4, is_ipv6, has_header, header_len, address_len, source_at, destination_at, ttl_at, protocol_at, datagram_len, total_len, protocol, is_tcp, is_udp, is_first, has_transport, segment_at, in_segment, datagram_end, data_offset, data_at, has_data, data_span, control_bits, header_sum_at, segment_sum_at}
+use Rattle.packet_fields.specs.Packets.{span_within, in_header, header_byte, is_ipv4, is_ipv6, has_header, header_len, address_len, source_at, destination_at, ttl_at, protocol_at, datagram_len, total_len, protocol, is_tcp, is_udp, is_first, has_transport, segment_at, in_segment, datagram_end, data_offset, data_at, has_data, data_span, udp_len, summed_end, summed_span, control_bits, header_sum_at, segment_sum_at}
+use Rattle.packet_fields.specs.Checksums.{segment_len}
 use Rattle.packet_fields.specs.Fields.{packet_span, bytes_at}
 use Rattle.packet_fields.specs.Writing.{overwritten}
 use Rattle.packet_fields.specs.declared.field.Field.{Field}
@@ -29,6 +30,7 @@ pub record SameShape (p q : List ℕ) : Type 0 where
   pub byte11 : is_ipv6 p ≡ false → get_or q 11 0 ≡ get_or p 11 0
   pub offset : has_transport p ≡ true → is_udp p ≡ false → get_or q (segment_at p + 12) 0 ≡ get_or p (segment_at p + 12) 0
   pub control : has_transport p ≡ true → is_tcp p ≡ true → get_or q (segment_at p + 13) 0 ≡ get_or p (segment_at p + 13) 0
+  pub own_len : has_transport p ≡ true → is_udp p ≡ true → word q (segment_at p + 4) ≡ word p (segment_at p + 4)
 
 pub is_ipv4-same : (p q : List ℕ) → SameShape p q → is_ipv4 q ≡ is_ipv4 p
 unfolding is_ipv4
@@ -100,6 +102,35 @@ data_span-same p q s =
     let moved : data_span_by (has_transport q) (is_udp q) (data_offset q) (segment_at q) (datagram_end q) ≡ data_span_by (has_transport p) (is_udp p) (data_offset q) (segment_at p) (datagram_end p) = cc in
     moved ∙ data_span_by-offset (has_transport p) (is_udp p) (data_offset p) (data_offset q) (segment_at p) (datagram_end p)
     (λ there not_udp. ap (λ (x : ℕ). x / 16) (ap (λ (k : ℕ). get_or q (k + 12) 0) a ∙ s.offset there not_udp))
+
+-- UDP's own length is the same
+length_by : (there udp : Bool) (f : ℕ → ℕ) (other n m : ℕ) → (there ≡ true → udp ≡ true → m ≡ n) → (if there && (udp && nat_le 8 m) then f m else other) ≡ (if there && (udp && nat_le 8 n) then f n else other)
+length_by false udp f other n m same = refl
+length_by true false f other n m same = refl
+length_by true true f other n m same = ap (λ (k : ℕ). if nat_le 8 k then f k else other) (same refl refl)
+
+udp_len-same : (p q : List ℕ) → SameShape p q → has_transport p ≡ true → is_udp p ≡ true → udp_len q ≡ udp_len p
+udp_len-same p q s there udp = ap (λ (n : ℕ). word q (n + 4)) (segment_at-same p q s) ∙ s.own_len there udp
+
+pub summed_end-same : (p q : List ℕ) → SameShape p q → summed_end q ≡ summed_end p
+summed_end-same p q s =
+    let t = has_transport-same p q s in
+    let u = is_udp-same p q s in
+    let a = segment_at-same p q s in
+    let e = datagram_end-same p q s in
+    let moved : summed_end q ≡ (if has_transport p && (is_udp p && nat_le 8 (udp_len q)) then min (datagram_end p) (segment_at p + udp_len q) else datagram_end p) = cc in
+    moved ∙ length_by (has_transport p) (is_udp p) (λ n. min (datagram_end p) (segment_at p + n)) (datagram_end p) (udp_len p) (udp_len q) (udp_len-same p q s)
+
+pub segment_len-same : (p q : List ℕ) → SameShape p q → segment_len q ≡ segment_len p
+segment_len-same p q s =
+    let t = has_transport-same p q s in
+    let u = is_udp-same p q s in
+    let h = same_header p q s in
+    let moved : segment_len q ≡ (if has_transport p && (is_udp p && nat_le 8 (udp_len q)) then udp_len q else datagram_len p - header_len p) = cc in
+    moved ∙ length_by (has_transport p) (is_udp p) (λ n. n) (datagram_len p - header_len p) (udp_len p) (udp_len q) (udp_len-same p q s)
+
+pub summed_span-same : (p q : List ℕ) → SameShape p q → summed_span q ≡ summed_span p
+summed_span-same p q s = cong2 (λ (n : ℕ) (o : Option Span). option_map (λ s. record { at = s.at; len = n - s.at }) o) (summed_end-same p q s) (data_span-same p q s)
 
 abbrev byte_by : Bool → Bool → ℕ → ℕ → ℕ → Option ℕ
 byte_by there tcp at end byte = if (there && tcp) && nat_lt at end then Some byte else None
@@ -205,15 +236,16 @@ pub record OutsideAll (p : List ℕ) (s : Span) : Type 0 where
   pub byte11 : is_ipv6 p ≡ false → Outside s 11
   pub offset : has_transport p ≡ true → is_udp p ≡ false → Outside s (segment_at p + 12)
   pub control : has_transport p ≡ true → is_udp p ≡ false → Outside s (segment_at p + 13)
+  pub own_len : has_transport p ≡ true → is_udp p ≡ true → Outside s (segment_at p + 4) × Outside s (segment_at p + 4 + 1)
 
 -- a span that begins after byte 8, and in IPv4 after byte 11 or at byte 10
-pub outside_behind : (p : List ℕ) (s : Span) → 8 < s.at → (is_ipv6 p ≡ false → Outside s 9) → (is_ipv6 p ≡ false → Outside s 11) → (has_transport p ≡ true → is_udp p ≡ false → Outside s (segment_at p + 12)) → (has_transport p ≡ true → is_udp p ≡ false → Outside s (segment_at p + 13)) → OutsideAll p s
-outside_behind p s behind byte9 byte11 offset control = record { byte0 = inl (omega arith); byte1 = inl (omega arith); byte2 = inl (omega arith); byte4 = inl (omega arith); byte5 = inl (omega arith); byte6 = inl (omega arith); byte7 = inl (omega arith); byte8 = inl behind; byte9 = byte9; byte11 = byte11; offset = offset; control = control }
+pub outside_behind : (p : List ℕ) (s : Span) → 8 < s.at → (is_ipv6 p ≡ false → Outside s 9) → (is_ipv6 p ≡ false → Outside s 11) → (has_transport p ≡ true → is_udp p ≡ false → Outside s (segment_at p + 12)) → (has_transport p ≡ true → is_udp p ≡ false → Outside s (segment_at p + 13)) → (has_transport p ≡ true → is_udp p ≡ true → Outside s (segment_at p + 4) × Outside s (segment_at p + 4 + 1)) → OutsideAll p s
+outside_behind p s behind byte9 byte11 offset control own_len = record { byte0 = inl (omega arith); byte1 = inl (omega arith); byte2 = inl (omega arith); byte4 = inl (omega arith); byte5 = inl (omega arith); byte6 = inl (omega arith); byte7 = inl (omega arith); byte8 = inl behind; byte9 = byte9; byte11 = byte11; offset = offset; control = control; own_len = own_len }
 
 -- a span within the header
 outside_header : (p : List ℕ) (s : Span) → 8 < s.at → (is_ipv6 p ≡ false → Outside s 9) → (is_ipv6 p ≡ false → Outside s 11) → s.at + s.len ≤ fields_end p → OutsideAll p s
 outside_header p s behind byte9 byte11 inside =
-    outside_behind p s behind byte9 byte11 (λ there _. let far = segment_at-transport p there in inr (omega arith)) (λ there _. let far = segment_at-transport p there in inr (omega arith))
+    outside_behind p s behind byte9 byte11 (λ there _. let far = segment_at-transport p there in inr (omega arith)) (λ there _. let far = segment_at-transport p there in inr (omega arith)) (λ there _. let far = segment_at-transport p there in (inr (omega arith), inr (omega arith)))
 
 outside_all : (f : Field) (p : List ℕ) (s : Span) → InBounds f p s → OutsideAll p s
 outside_all LinkDst p s b = absurd b
@@ -221,13 +253,13 @@ outside_all LinkSrc p s b = absurd b
 outside_all Tag p s b = absurd b
 outside_all Tos p s b =
     let n = numbers p in
-    record { byte0 = inl (omega arith); byte1 = inl (omega arith); byte2 = inl (omega arith); byte4 = inr (omega arith); byte5 = inr (omega arith); byte6 = inr (omega arith); byte7 = inr (omega arith); byte8 = inr (omega arith); byte9 = λ _. inr (omega arith); byte11 = λ _. inr (omega arith); offset = λ there _. let far = segment_at-transport p there in inr (omega arith); control = λ there _. let far = segment_at-transport p there in inr (omega arith) }
+    record { byte0 = inl (omega arith); byte1 = inl (omega arith); byte2 = inl (omega arith); byte4 = inr (omega arith); byte5 = inr (omega arith); byte6 = inr (omega arith); byte7 = inr (omega arith); byte8 = inr (omega arith); byte9 = λ _. inr (omega arith); byte11 = λ _. inr (omega arith); offset = λ there _. let far = segment_at-transport p there in inr (omega arith); control = λ there _. let far = segment_at-transport p there in inr (omega arith); own_len = λ there _. let far = segment_at-transport p there in (inr (omega arith), inr (omega arith)) }
 outside_all Ttl p s b = let n = numbers p in outside_header p s (omega arith) (λ four. let zero = n.none four in inl (omega arith)) (λ four. let zero = n.none four in inr (omega arith)) (omega arith)
 outside_all SrcIp p s b = let n = numbers p in outside_header p s (omega arith) (λ four. let zero = n.none four in inl (omega arith)) (λ four. let zero = n.none four in inl (omega arith)) (omega arith)
 outside_all DstIp p s b = let n = numbers p in outside_header p s (omega arith) (λ four. let zero = n.none four in inl (omega arith)) (λ four. let zero = n.none four in inl (omega arith)) (omega arith)
-outside_all SrcPort p s b = let n = numbers p in outside_behind p s (omega arith) (λ _. inl (omega arith)) (λ _. inl (omega arith)) (λ _ _. inr (omega arith)) (λ _ _. inr (omega arith))
-outside_all DstPort p s b = let n = numbers p in outside_behind p s (omega arith) (λ _. inl (omega arith)) (λ _. inl (omega arith)) (λ _ _. inr (omega arith)) (λ _ _. inr (omega arith))
-outside_all Payload p s b = let n = numbers p in outside_behind p s (omega arith) (λ _. inl (omega arith)) (λ _. inl (omega arith)) (λ _ tcp. let far = b.1 tcp in inl (omega arith)) (λ _ tcp. let far = b.1 tcp in inl (omega arith))
+outside_all SrcPort p s b = let n = numbers p in outside_behind p s (omega arith) (λ _. inl (omega arith)) (λ _. inl (omega arith)) (λ _ _. inr (omega arith)) (λ _ _. inr (omega arith)) (λ _ _. (inr (omega arith), inr (omega arith)))
+outside_all DstPort p s b = let n = numbers p in outside_behind p s (omega arith) (λ _. inl (omega arith)) (λ _. inl (omega arith)) (λ _ _. inr (omega arith)) (λ _ _. inr (omega arith)) (λ _ _. (inr (omega arith), inr (omega arith)))
+outside_all Payload p s b = let n = numbers p in outside_behind p s (omega arith) (λ _. inl (omega arith)) (λ _. inl (omega arith)) (λ _ tcp. let far = b.1 tcp in inl (omega arith)) (λ _ tcp. let far = b.1 tcp in inl (omega arith)) (λ _ _. let far = b.0 in (inl (omega arith), inl (omega arith)))
 
 is_tcp-not_udp : (n : ℕ) → nat_eq n 6 ≡ true → nat_eq n 17 ≡ false
 is_tcp-not_udp n tcp = let six = eqb-true n 6 tcp in rw six refl
@@ -247,6 +279,7 @@ shape_outside p s new o len inside = record {
   byte11 = λ four. byte_kept s new p 11 len inside (o.byte11 four);
   offset = λ there not_udp. byte_kept s new p (segment_at p + 12) len inside (o.offset there not_udp);
   control = λ there tcp. byte_kept s new p (segment_at p + 13) len inside (o.control there (is_tcp-not_udp (header_byte p (protocol_at p)) tcp));
+  own_len = λ there udp. let apart = o.own_len there udp in cong2 (λ (a b : ℕ). a * 256 + b) (byte_kept s new p (segment_at p + 4) len inside apart.0) (byte_kept s new p (segment_at p + 4 + 1) len inside apart.1);
 }
 
 pub shape_kept : (f : Field) (p : List ℕ) (s : Span) (new : List ℕ) → packet_span f p ≡ Some s → length new ≡ s.len → SameShape p (overwritten s.at new p)

@@ -2,7 +2,7 @@
 use Rattle.std.specs.Prelude.{◌≡◌, ◌⊎◌, ◌<◌, ℕ, ◌+◌, ◌-◌, ◌*◌, ◌/◌, ◌%◌, List, [], ◌∷◌, ◌++◌, length, take, drop, sum, Bool, true, false, not, if◌then◌else◌, ◌==◌, ◌&&◌, ◌||◌, Option, Some, None, IsSome, slice_index}
 use Rattle.std.specs.Option.{option_eq}
 use Rattle.packet_fields.specs.Frames.{word, packet_at, packet}
-use Rattle.packet_fields.specs.Packets.{in_header, header_byte, header_word, is_ipv4, is_ipv6, header_len, address_len, source_at, protocol_at, datagram_len, is_udp, segment_at, datagram_end, data_span, header_sum_at, checksum_at, segment_sum_at}
+use Rattle.packet_fields.specs.Packets.{in_header, header_byte, header_word, is_ipv4, is_ipv6, header_len, address_len, source_at, protocol_at, datagram_len, is_udp, segment_at, udp_len, has_udp_len, summed_end, summed_span, header_sum_at, checksum_at, segment_sum_at}
 use Rattle.packet_fields.specs.Plans.{header_plan_of, segment_plan_of}
 use Rattle.packet_fields.specs.Fields.{bytes_at, overwritten}
 use Rattle.packet_fields.specs.declared.plan.Span.{Span}
@@ -53,9 +53,9 @@ abbrev pub addresses_of : List ℕ → List ℕ
 addresses_of p = take (2 * address_len p) (drop (in_header (source_at p)) p)
 
 -- the words under the TCP or UDP checksum that a network function can write: both addresses, both ports,
--- and the data (RFC 793, 3.1; RFC 768; RFC 8200, 8.1)
-abbrev pub segment_words : List ℕ → List ℕ
-segment_words p = words (addresses_of p ++ (take 4 (drop (segment_at p) p) ++ data_of p (data_span p)))
+-- and some data (RFC 793, 3.1; RFC 768; RFC 8200, 8.1)
+abbrev pub segment_words : Option Span → List ℕ → List ℕ
+segment_words payload p = words (addresses_of p ++ (take 4 (drop (segment_at p) p) ++ data_of p payload))
 
 -- in UDP a checksum of 0 means that there is none, and a computed 0 is sent as 0xffff (RFC 768)
 abbrev pub udp_adjusted : ℕ → List ℕ → List ℕ → ℕ
@@ -69,9 +69,10 @@ word_put (Some at) n p = overwritten at (word_bytes n) p
 abbrev pub header_sealed : List ℕ → List ℕ → List ℕ
 header_sealed old new = word_put (header_sum_at old) (adjusted (header_word old 10) (header_words old) (header_words new)) new
 
+-- the data is what the old packet has under its checksum: what follows a UDP datagram's own length changes nothing
 abbrev pub segment_checksum : List ℕ → List ℕ → ℕ
 segment_checksum old new =
-    if is_udp old then udp_adjusted (word old (checksum_at old)) (segment_words old) (segment_words new) else adjusted (word old (checksum_at old)) (segment_words old) (segment_words new)
+    if is_udp old then udp_adjusted (word old (checksum_at old)) (segment_words (summed_span old) old) (segment_words (summed_span old) new) else adjusted (word old (checksum_at old)) (segment_words (summed_span old) old) (segment_words (summed_span old) new)
 
 abbrev pub segment_sealed : List ℕ → List ℕ → List ℕ
 segment_sealed old new = word_put (segment_sum_at old) (segment_checksum old new) new
@@ -114,12 +115,16 @@ header_of p = take (header_len p) (drop (in_header 0) p)
 
 -- the TCP segment or UDP datagram, as far as it is captured
 abbrev pub segment_of : List ℕ → List ℕ
-segment_of p = take (datagram_end p - segment_at p) (drop (segment_at p) p)
+segment_of p = take (summed_end p - segment_at p) (drop (segment_at p) p)
+
+-- its length: UDP has one of its own, and TCP fills the IP datagram (RFC 793, 3.1; RFC 768; RFC 8200, 8.1)
+abbrev pub segment_len : List ℕ → ℕ
+segment_len p = if has_udp_len p then udp_len p else datagram_len p - header_len p
 
 -- the words before it in its sum: both addresses, protocol, length (RFC 793, 3.1; RFC 768). For IPv6 the length has
 -- 32 bits, of which the upper 16 are 0 here (RFC 8200, 8.1).
 abbrev pub pseudo_header : List ℕ → List ℕ
-pseudo_header p = header_byte p (protocol_at p) ∷ (datagram_len p - header_len p) ∷ words (addresses_of p)
+pseudo_header p = header_byte p (protocol_at p) ∷ segment_len p ∷ words (addresses_of p)
 
 -- the checksums that a frame has are right by that sum; UDP may have none
 pub record HasRightSums (frame : List ℕ) : Type 0 where

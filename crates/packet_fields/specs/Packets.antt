@@ -1,6 +1,6 @@
 -- Believed: IPv4 (RFC 791), IPv6 (RFC 8200), TCP (RFC 793), UDP (RFC 768) in a packet, which begins with its EtherType.
 -- A place in a header counts from the header's first byte, as in its RFC.
-use Rattle.std.specs.Prelude.{ℕ, ◌+◌, ◌-◌, ◌*◌, ◌/◌, ◌%◌, min, List, length, Bool, if◌then◌else◌, ◌==◌, ◌&&◌, ◌||◌, nat_le, nat_lt, is_some, Option, Some, None, slice_index}
+use Rattle.std.specs.Prelude.{ℕ, ◌+◌, ◌-◌, ◌*◌, ◌/◌, ◌%◌, min, List, length, Bool, if◌then◌else◌, ◌==◌, ◌&&◌, ◌||◌, nat_le, nat_lt, is_some, Option, Some, None, option_map, slice_index}
 use Rattle.packet_fields.specs.Frames.{word}
 use Rattle.packet_fields.specs.declared.plan.Span.{Span}
 
@@ -140,6 +140,23 @@ has_data packet = has_transport packet && (is_udp packet || (nat_lt (in_segment 
 -- the data of the datagram, as far as it is captured; it may be empty
 abbrev pub data_span : List ℕ → Option Span
 data_span packet = if has_data packet && nat_le (data_at packet) (datagram_end packet) then Some (record { at = data_at packet; len = datagram_end packet - data_at packet }) else None
+
+-- the length in a UDP header, which counts the header and its data (RFC 768)
+abbrev pub udp_len : List ℕ → ℕ
+udp_len packet = word packet (in_segment packet 4)
+
+-- the same, if it counts at least the header's 8 bytes; a lower one says nothing
+abbrev pub has_udp_len : List ℕ → Bool
+has_udp_len packet = has_transport packet && (is_udp packet && nat_le 8 (udp_len packet))
+
+-- where the captured bytes under the TCP or UDP checksum end: with those of the datagram, and in UDP no later than its
+-- own length says (RFC 768; RFC 8200, 8.1)
+abbrev pub summed_end : List ℕ → ℕ
+summed_end packet = if has_udp_len packet then min (datagram_end packet) (in_segment packet (udp_len packet)) else datagram_end packet
+
+-- the data under the checksum
+abbrev pub summed_span : List ℕ → Option Span
+summed_span packet = option_map (λ s. record { at = s.at; len = summed_end packet - s.at }) (data_span packet)
 
 -- TCP's control bits (RFC 793, 3.1)
 abbrev pub control_bits : List ℕ → Option ℕ

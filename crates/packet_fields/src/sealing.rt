@@ -1,6 +1,6 @@
 //! The checksums of a packet after a change.
 ghost use Rattle.std.specs.Prelude.{◌≡◌, ◌≤◌, ◌<◌, ◌+◌, ◌^◌, ◌%◌, Some, true, length, IfSome, if◌then◌else◌};
-ghost use Rattle.packet_fields.specs.Packets.{has_transport as has_transport_of, header_len as header_len_of, data_span};
+ghost use Rattle.packet_fields.specs.Packets.{has_transport as has_transport_of, header_len as header_len_of};
 ghost use Rattle.packet_fields.specs.Fields.{value};
 ghost use Rattle.packet_fields.specs.declared.field.Field.{Field};
 ghost use Rattle.packet_fields.specs.Writing.{overwritten, rest_of};
@@ -17,13 +17,16 @@ use crate::packet::{
 use crate::places::{packet_from, packet_place};
 use crate::plan::Span;
 use crate::sums::Change;
-use crate::transport::{SegmentPlan, has_data_of, has_segment, is_udp, segment_at, segment_plan};
+use crate::transport::{
+    SegmentPlan, has_data_of, has_segment, is_udp, segment_at, segment_plan, summed_data,
+};
 use byteorder::{BigEndian, ByteOrder};
 
 /// Adjusts the checksums of a frame once, by the difference between `before` and `after` (RFC 1624, 3, equation 3). A
 /// wrong checksum stays wrong by the same difference. A UDP checksum of 0, which means that there is none, stays 0, and
-/// a result of 0 is written as 0xffff. If the packets of the frames differ in more than the bytes of their fields, such
-/// as in length or in the places of fields, `after` stays.
+/// a result of 0 is written as 0xffff. The payload counts in a UDP checksum as far as the length in its header says, if
+/// that is at least 8. If the packets of the frames differ in more than the bytes of their fields, such as in length or
+/// in the places of fields, `after` stays.
 pub fn seal(before: &[u8], after: &mut [u8])
     ensures sealed { after.new ≡ sealed before.now after.old }
 
@@ -155,7 +158,6 @@ fn seal_segment(old: &[u8], new: &mut [u8], version: IpVersion, plan: &SegmentPl
     requires sum_at { IfSome plan.now.sum_at (λ at. at + 2 ≤ length old.now) }
     requires same_len { length old.now ≡ length new.old }
     requires same_header { header_len_of old.now ≡ header_len_of new.old }
-    requires same_data { data_span old.now ≡ data_span new.old }
     ensures { new.new ≡ segment_sealed old.now new.old }
 {
     if let Some(at) = plan.sum_at {
@@ -164,13 +166,16 @@ fn seal_segment(old: &[u8], new: &mut [u8], version: IpVersion, plan: &SegmentPl
             at: format.src_ip,
             len: 2 * format.address_len,
         };
-        let change = segment_change(old, new, addresses, segment_at(old, version), plan.payload);
-        let checksum = segment_checksum(is_udp(old, version), word(old, at), change);
+        let is_udp = is_udp(old, version);
+        let start = segment_at(old, version);
+        let payload = summed_data(old, is_udp, start, plan.payload);
+        let change = segment_change(old, new, addresses, start, payload);
+        let checksum = segment_checksum(is_udp, word(old, at), change);
         write_word(new, at, checksum);
     }
 }
 
-/// What changed under the checksum of a transport header that begins at `start`.
+/// What changed under the checksum of a transport header that begins at `start`, with this payload under it.
 #[inline(always)]
 fn segment_change(
     old: &[u8],

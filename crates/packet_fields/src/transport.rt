@@ -1,6 +1,6 @@
 //! The TCP or UDP header of a packet, after its IP header.
 ghost use Rattle.std.specs.Prelude.{◌≡◌, ◌≤◌, ◌+◌, ◌&&◌, length, IsTrue, IfSome, Some, true, if◌then◌else◌};
-ghost use Rattle.packet_fields.specs.Packets.{is_udp as is_udp_of, is_tcp, has_transport_protocol as has_transport_protocol_of, is_first as is_first_of, has_whole_header as has_whole_header_of, has_transport as has_transport_of, segment_at as segment_at_of, datagram_end as datagram_end_of, data_span as data_span_of, control_bits};
+ghost use Rattle.packet_fields.specs.Packets.{is_udp as is_udp_of, is_tcp, has_transport_protocol as has_transport_protocol_of, is_first as is_first_of, has_whole_header as has_whole_header_of, has_transport as has_transport_of, segment_at as segment_at_of, datagram_end as datagram_end_of, data_span as data_span_of, summed_span, control_bits};
 ghost use Rattle.packet_fields.specs.Plans.{segment_plan_of};
 ghost use Rattle.packet_fields.specs.Outlines.{version_of};
 ghost use Rattle.packet_fields.specs.Checksums.{same_span, same_number};
@@ -20,6 +20,8 @@ const TCP_OFFSET: usize = 12;
 pub const TCP_CONTROL: usize = 13;
 
 const TCP_SUM: usize = 16;
+
+const UDP_LEN: usize = 4;
 
 const UDP_SUM: usize = 6;
 
@@ -162,6 +164,33 @@ pub fn data_span(packet: &[u8], is_udp: bool, start: usize, end: usize) -> Optio
     } else {
         None
     }
+}
+
+/// The part of the payload that the checksum of a transport header covers, which begins at `start`. UDP's own length may
+/// end it (RFC 768; RFC 8200, 8.1); a length below that of the header says nothing.
+#[inline(always)]
+pub fn summed_data(packet: &[u8], is_udp: bool, start: usize, payload: Option<Span>) -> Option<Span>
+    requires kind { is_udp ≡ is_udp_of packet.now }
+    requires begins { start ≡ segment_at_of packet.now }
+    requires payload { payload ≡ data_span_of packet.now }
+    requires inside { IfSome payload (λ s. s.at + s.len ≤ length packet.now) }
+    requires short { IfSome payload (λ s. s.len ≤ 65537) }
+    ensures span { result ≡ summed_span packet.now }
+    ensures inside { IfSome result (λ s. s.at + s.len ≤ length packet.now) }
+    ensures short { IfSome result (λ s. s.len ≤ 65537) }
+{
+    let span = payload?;
+    if !is_udp {
+        return Some(span);
+    }
+    let counted = usize::from(word(packet, start + UDP_LEN));
+    if counted < UDP_HEADER_LEN {
+        return Some(span);
+    }
+    Some(Span {
+        at: span.at,
+        len: span.len.min(counted - UDP_HEADER_LEN),
+    })
 }
 
 /// The places of the transport header.

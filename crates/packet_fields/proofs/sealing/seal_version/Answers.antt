@@ -22,9 +22,6 @@ seal_segment-requires-clause-same_version c =
 pub seal_segment-requires-clause-same_header : goal.seal_segment-requires-clause-same_header
 seal_segment-requires-clause-same_header c = (after_header c.args.old.now c.args.new.now c.seal_header.new.new (same_when c.args.old.now c.args.new.now c.if-not-has_same_headers.ensures c.if-has_same_segment.ensures) c.seal_header.ensures).header
 
-pub seal_segment-requires-clause-same_data : goal.seal_segment-requires-clause-same_data
-seal_segment-requires-clause-same_data c = (after_header c.args.old.now c.args.new.now c.seal_header.new.new (same_when c.args.old.now c.args.new.now c.if-not-has_same_headers.ensures c.if-has_same_segment.ensures) c.seal_header.ensures).payload
-
 pub returns-then-has_same_segment : goal.returns-then-has_same_segment
 returns-then-has_same_segment c = seals c.args.old.now c.args.new.now c.seal_header.new.new c.seal_segment.new.new (same_when c.args.old.now c.args.new.now c.if-not-has_same_headers.ensures c.if-has_same_segment.ensures) c.seal_header.ensures c.seal_segment.ensures
 
