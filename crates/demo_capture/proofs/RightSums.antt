@@ -1,13 +1,14 @@
 -- The checksums of each frame are there and right.
-use Rattle.std.proofs.Common.{◌≡◌, ◌≢◌, ◌≤◌, ◌<◌, ◌+◌, ◌-◌, ◌*◌, ◌/◌, ◌%◌, ◌∙◌, ℕ, suc, zero, List, ◌∷◌, ◌++◌, sum, length, take, drop, Bool, true, false, inr, sym, ap, refl, subst, arith, ⊎_elim}
+use Rattle.std.proofs.Common.{◌≡◌, ◌≢◌, ◌≤◌, ◌<◌, ◌+◌, ◌-◌, ◌*◌, ◌/◌, ◌%◌, ◌∙◌, ℕ, suc, zero, List, ◌∷◌, ◌++◌, sum, length, take, drop, Bool, true, false, min, inr, sym, ap, refl, subst, arith, ⊎_elim}
 use Rattle.std.specs.Prelude.{All, Option, Some, None, IsSome, nat_le, nat_lt, if◌then◌else◌, ◌==◌, ◌&&◌, ◌||◌}
-use Rattle.std.proofs.lemmas.Bool.{and_from, cases_eq, cond-true, cond-false, le-leb, lt-ltb, ne_eqb}
+use Rattle.std.proofs.lemmas.Bool.{and_from, cases_eq, cond-true, cond-false, cond_both, le-leb, lt-ltb, ne_eqb}
 use Rattle.std.proofs.lemmas.List.{take_rest}
 use Rattle.capture_bytes.specs.declared.packet.PcapRecord.{PcapRecord}
-use Rattle.packet_fields.specs.Checksums.{HasRightSums, IsRight, folded, header_of, pseudo_header as pseudo_header_in, segment_of, words}
+use Rattle.packet_fields.specs.Checksums.{HasRightSums, IsRight, folded, header_of, addresses_of, pseudo_header as pseudo_header_in, segment_len as segment_len_in, segment_of, words}
 use Rattle.packet_fields.proofs.Rightness.{sum-append}
+use Rattle.packet_fields.proofs.Summed.{own_length}
 use Rattle.packet_fields.specs.Frames.{packet, tags_len, word}
-use Rattle.packet_fields.specs.Packets.{by_version, checksum_at, datagram_end, datagram_len, has_transport, header_byte, header_sum_at, header_word, in_header, is_ipv4, is_ipv6, is_udp, segment_at, segment_sum_at}
+use Rattle.packet_fields.specs.Packets.{by_version, checksum_at, datagram_end, datagram_len, has_transport, has_udp_len, header_byte, header_len, header_sum_at, header_word, in_header, is_ipv4, is_ipv6, is_udp, protocol_at, segment_at, segment_sum_at, summed_end, udp_len}
 use Rattle.internet_checksum.specs.Checksums.{checksum_of}
 use Rattle.internet_checksum.proofs.Complements.{complement_right, folded_some}
 use Rattle.demo_capture.specs.declared.draws.Draws.{Draws}
@@ -90,11 +91,28 @@ module _ (total k net host to : ℕ) (xs : List ℕ) where
   begins_at : (protocol : ℕ) → segment_at (ip_packet total protocol k net host to xs) ≡ 22
   begins_at protocol = ap in_header (four protocol 20 40)
 
-  segment_is : (protocol : ℕ) → total ≡ 20 + length xs → segment_of (ip_packet total protocol k net host to xs) ≡ xs
-  segment_is protocol is =
+  -- if it is UDP, its own length is that of what follows the header
+  abbrev OwnLength : ℕ → Type 0
+  OwnLength protocol = is_udp (ip_packet total protocol k net host to xs) ≡ true → udp_len (ip_packet total protocol k net host to xs) ≡ length xs
+
+  summed_is : (protocol : ℕ) → total ≡ 20 + length xs → OwnLength protocol → summed_end (ip_packet total protocol k net host to xs) ≡ 22 + length xs
+  summed_is protocol is own =
       let p = ip_packet total protocol k net host to xs in
-      let len : datagram_end p - 22 ≡ length xs - 0 = omega (arith, end_is protocol is) in
-      ap (λ (at : ℕ). take (datagram_end p - at) (drop at p)) (begins_at protocol) ∙ ap (λ (n : ℕ). take n xs) len ∙ take_rest xs 0
+      cond_both (has_udp_len p) (min (datagram_end p) (segment_at p + udp_len p)) (datagram_end p) (λ (n : ℕ). n ≡ 22 + length xs)
+      (λ there. let len = own (own_length p there).0 in omega (arith, end_is protocol is, begins_at protocol, len)) (λ _. end_is protocol is)
+
+  segment_is : (protocol : ℕ) → total ≡ 20 + length xs → OwnLength protocol → segment_of (ip_packet total protocol k net host to xs) ≡ xs
+  segment_is protocol is own =
+      let p = ip_packet total protocol k net host to xs in
+      let len : summed_end p - 22 ≡ length xs - 0 = omega (arith, summed_is protocol is own) in
+      ap (λ (at : ℕ). take (summed_end p - at) (drop at p)) (begins_at protocol) ∙ ap (λ (n : ℕ). take n xs) len ∙ take_rest xs 0
+
+  segment_len_is : (protocol : ℕ) → total ≡ 20 + length xs → OwnLength protocol → segment_len_in (ip_packet total protocol k net host to xs) ≡ total - 20
+  segment_len_is protocol is own =
+      let p = ip_packet total protocol k net host to xs in
+      let header : header_len p ≡ 20 = four protocol 20 40 in
+      cond_both (has_udp_len p) (udp_len p) (datagram_len p - header_len p) (λ (n : ℕ). n ≡ total - 20)
+      (λ there. let len = own (own_length p there).0 in omega (arith, len, is)) (λ _. omega (arith, len_is protocol, header))
 
   transport_is : (protocol : ℕ) → ((protocol == 6) || (protocol == 17)) ≡ true → total ≡ 20 + length xs → has_transport (ip_packet total protocol k net host to xs) ≡ true
   transport_is protocol known is =
@@ -138,15 +156,15 @@ module _ (total k net host to : ℕ) (xs : List ℕ) where
       by false is = omega arith
       by true is = absurd cc
 
-  pseudo_sum : (protocol : ℕ) → sum (pseudo_header_in (ip_packet total protocol k net host to xs)) ≡ protocol + (total - 20) + 0x0a00 + (net * 256 + host) + 0xc633 + (0x6400 + to)
+  pseudo_sum : (protocol : ℕ) → total ≡ 20 + length xs → OwnLength protocol → sum (pseudo_header_in (ip_packet total protocol k net host to xs)) ≡ protocol + (total - 20) + 0x0a00 + (net * 256 + host) + 0xc633 + (0x6400 + to)
   unfolding words
-  pseudo_sum protocol = by (is_ipv6 p) (not_ipv6 protocol)
+  pseudo_sum protocol is own = ap (λ (n : ℕ). sum (header_byte p (protocol_at p) ∷ n ∷ words (addresses_of p))) (segment_len_is protocol is own) ∙ by (is_ipv6 p) (not_ipv6 protocol)
     where
       p : List ℕ
       p = ip_packet total protocol k net host to xs
 
       by : (six : Bool) → six ≡ false →
-          sum (header_byte p (if six then 6 else 9) ∷ ((if six then header_word p 4 + 40 else header_word p 2) - (if six then 40 else 20)) ∷ words (take (2 * (if six then 16 else 4)) (drop (in_header (if six then 8 else 12)) p)))
+          sum (header_byte p (if six then 6 else 9) ∷ (total - 20) ∷ words (take (2 * (if six then 16 else 4)) (drop (in_header (if six then 8 else 12)) p)))
           ≡ protocol + (total - 20) + 0x0a00 + (net * 256 + host) + 0xc633 + (0x6400 + to)
       by false is = omega arith
       by true is = absurd cc
@@ -189,13 +207,32 @@ segment_sum c r = sum_by (is_tcp r) c r (payload_of r)
 same_len : (c : ℕ) (r : Draws) → 20 + segment_len r ≡ 20 + length (segment_with c r)
 same_len c r = omega (arith, length_segment r, length_segment_with c r)
 
+-- UDP's own length is that of its datagram
+
+own_by : (b : Bool) (total k net host to c : ℕ) (r : Draws)
+    → is_udp (ip_packet total (if b then 6 else 17) k net host to ((if b then tcp_header c r else udp_header c r) ++ payload_of r)) ≡ true
+    → udp_len (ip_packet total (if b then 6 else 17) k net host to ((if b then tcp_header c r else udp_header c r) ++ payload_of r)) ≡ length ((if b then tcp_header c r else udp_header c r) ++ payload_of r)
+own_by true total k net host to c r udp =
+    let p = ip_packet total 6 k net host to (tcp_header c r ++ payload_of r) in
+    let other : false ≡ true = sym (ap (λ (at : ℕ). header_byte p at == 17) (four total k net host to (tcp_header c r ++ payload_of r) 6 9 6)) ∙ udp in
+    absurd cc
+own_by false total k net host to c r udp =
+    let p = ip_packet total 17 k net host to (udp_header c r ++ payload_of r) in
+    let n : ℕ = 8 + length (payload_of r) in
+    let there : udp_len p ≡ (n / 256) * 256 + n % 256 = ap (λ (at : ℕ). word p (at + 4)) (begins_at total k net host to (udp_header c r ++ payload_of r) 17) in
+    omega (arith, there)
+
+own_written : (c : ℕ) (r : Draws) → is_udp (packet_of c r) ≡ true → udp_len (packet_of c r) ≡ length (segment_with c r)
+unfolding segment_with
+own_written c r = own_by (is_tcp r) (20 + segment_len r) (checksum_of (ip_header_with 0 r)) (r.a % 4) (1 + (r.a / 4) % 200) (1 + r.b % 8) c r
+
 -- the whole sum after a checksum
 whole_sum : (c : ℕ) (r : Draws) → sum (pseudo_header_in (packet_of c r) ++ words (segment_of (packet_of c r))) ≡ sum (words (pseudo_header r ++ segment_with 0 r)) + c
 whole_sum c r =
     let front = sum-append (pseudo_header_in (packet_of c r)) (words (segment_of (packet_of c r))) in
-    let pseudo = pseudo_sum (20 + segment_len r) (checksum_of (ip_header_with 0 r)) (r.a % 4) (1 + (r.a / 4) % 200) (1 + r.b % 8) (segment_with c r) (protocol_of r) in
+    let pseudo = pseudo_sum (20 + segment_len r) (checksum_of (ip_header_with 0 r)) (r.a % 4) (1 + (r.a / 4) % 200) (1 + r.b % 8) (segment_with c r) (protocol_of r) (same_len c r) (own_written c r) in
     let behind : sum (words (segment_of (packet_of c r))) ≡ sum (words (segment_with c r)) =
-    ap (λ (xs : List ℕ). sum (words xs)) (segment_is (20 + segment_len r) (checksum_of (ip_header_with 0 r)) (r.a % 4) (1 + (r.a / 4) % 200) (1 + r.b % 8) (segment_with c r) (protocol_of r) (same_len c r)) in
+    ap (λ (xs : List ℕ). sum (words xs)) (segment_is (20 + segment_len r) (checksum_of (ip_header_with 0 r)) (r.a % 4) (1 + (r.a / 4) % 200) (1 + r.b % 8) (segment_with c r) (protocol_of r) (same_len c r) (own_written c r)) in
     omega (arith, front, pseudo, behind, own_pseudo_sum r, sum_pseudo r (segment_with 0 r), segment_sum c r)
 
 segment_right : (r : Draws) → IsRight (pseudo_header_in (packet_of (segment_checksum r) r) ++ words (segment_of (packet_of (segment_checksum r) r)))
