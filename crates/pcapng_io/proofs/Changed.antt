@@ -16,8 +16,9 @@ use Rattle.pcapng_io.specs.declared.item.NgItem.TheVariants.{Section, Interface}
 use Rattle.pcapng_io.specs.declared.place.Place.{Place}
 use Rattle.pcapng_io.specs.Options.{BlockOption, options_of, resolution_of}
 use Rattle.pcapng_io.specs.Times.{is_resolution, ticks_in_second}
-use Rattle.pcapng_io.specs.Blocks.{first_fault, length_faults, content_faults, kind_of, length_in, options_in}
+use Rattle.pcapng_io.specs.Blocks.{first_fault, length_faults, content_faults, kind_of, length_in, options_at, options_in, copied_block}
 use Rattle.pcapng_io.specs.Written.{section_bytes, interface_bytes, grown}
+use Rattle.pcapng_io.proofs.Copying.{stays_whole}
 use Rattle.pcapng_io.proofs.Faults.{long_enough}
 use Rattle.pcapng_io.proofs.Same.{Alone}
 
@@ -74,8 +75,12 @@ interface_rows n last size long options link =
     (not (last == size) || nat_lt long 20 || false || is_none options, BadBlock n) ∷ (not (link == 1), BadLink link) ∷ (not (is_resolution (resolution_of options)), BadResolution n)
     ∷ (false, BadBlock n) ∷ (false, BadBlock n) ∷ (false, BadBlock n) ∷ (false, BadBlock n) ∷ (n == 1099511627776, TooManyBlocks) ∷ []
 
+-- the bytes of options that begin after the change
+same_region : (at m k : ℕ) (w block : List ℕ) → Agrees m k w block → k ≤ at → options_at at w ≡ options_at at block
+same_region at m k w block agrees h = ap (λ n. take (n - (at + 4)) (drop at w)) agrees.size ∙ ap (take (length block - (at + 4))) (from_back at m k w block agrees h)
+
 same_options : (order : Endian) (w block : List ℕ) → Agrees 12 16 w block → options_in order w ≡ options_in order block
-same_options order w block agrees = ap (λ k. options_of order (take (k - 20) (drop 16 w))) agrees.size ∙ ap (λ l. options_of order (take (length block - 20) l)) agrees.back
+same_options order w block agrees = ap (options_of order) (same_region 16 12 16 w block agrees (omega arith))
 
 interface_content : (place : Place) (order : Endian) (w block : List ℕ) → Agrees 12 16 w block → 20 ≤ length block → first_fault (content_faults place order InterfaceDescription w) ≡ first_fault (content_faults place order InterfaceDescription block)
 interface_content place order w block agrees long =
@@ -86,25 +91,31 @@ interface_content place order w block agrees long =
     ∙ ap (λ o. first_fault (interface_rows n (number_at order 4 (length block - 4) block) (length_in order block) (length block) o (number_at order 2 8 w))) (same_options order w block agrees)
     ∙ ap (λ m. first_fault (interface_rows n (number_at order 4 (length block - 4) block) (length_in order block) (length block) (options_in order block) m)) (at_front order 2 8 12 16 w block agrees (omega arith))
 
-pub section_alone : (place now : Place) (order : Endian) (w block : List ℕ) (item : NgItem) → Agrees 16 24 w block → Alone place SectionHeader order block item now → Alone place SectionHeader order w (Section w) now
-section_alone place now order w block item agrees is = record {
+section_kept : (xs ys : List ℕ) → Section xs ≡ Section ys → xs ≡ ys
+section_kept xs ys is = cc
+
+interface_kept : (order : Endian) (xs ys : List ℕ) → Interface order xs ≡ Interface order ys → xs ≡ ys
+interface_kept order xs ys is = cc
+
+pub section_alone : (place now : Place) (order : Endian) (w block : List ℕ) → Agrees 16 24 w block → Alone place SectionHeader order block (Section block) now → Alone place SectionHeader order w (Section w) now
+section_alone place now order w block agrees is = record {
   kind_is = is.kind_is ∙ ap kind_of (sym (at_front place.order 4 0 16 24 w block agrees (omega arith)));
   order_is = is.order_is ∙ ap (λ m. if m == 0x1a2b3c4d then Big else Little) (sym (at_front Big 4 8 16 24 w block agrees (omega arith)));
   size_is = at_front order 4 4 16 24 w block agrees (omega arith) ∙ is.size_is ∙ sym agrees.size;
   fits = ap first_fault (section_lengths (place.blocks + 1) order w block agrees) ∙ is.fits;
   sound = section_content place order w block agrees (long_enough place order SectionHeader block is.sound) ∙ is.sound;
-  item_is = refl;
+  item_is = ap (λ l. Section l) (stays_whole order 24 w block (omega arith) (long_enough place order SectionHeader block is.sound) (same_region 24 16 24 w block agrees (omega arith)) (section_kept (copied_block order 24 block) block is.item_is));
   now_is = is.now_is;
 }
 
-pub interface_alone : (place now : Place) (order : Endian) (w block : List ℕ) (item : NgItem) → Agrees 12 16 w block → Alone place InterfaceDescription order block item now → Alone place InterfaceDescription order w (Interface order w) now
-interface_alone place now order w block item agrees is = record {
+pub interface_alone : (place now : Place) (order : Endian) (w block : List ℕ) → Agrees 12 16 w block → Alone place InterfaceDescription order block (Interface order block) now → Alone place InterfaceDescription order w (Interface order w) now
+interface_alone place now order w block agrees is = record {
   kind_is = is.kind_is ∙ ap kind_of (sym (at_front place.order 4 0 12 16 w block agrees (omega arith)));
   order_is = is.order_is;
   size_is = at_front order 4 4 12 16 w block agrees (omega arith) ∙ is.size_is ∙ sym agrees.size;
   fits = ap first_fault (interface_lengths (place.blocks + 1) order w block agrees) ∙ is.fits;
   sound = interface_content place order w block agrees (long_enough place order InterfaceDescription block is.sound) ∙ is.sound;
-  item_is = refl;
+  item_is = ap (λ l. Interface order l) (stays_whole order 16 w block (omega arith) (long_enough place order InterfaceDescription block is.sound) (same_region 16 12 16 w block agrees (omega arith)) (interface_kept order (copied_block order 16 block) block is.item_is));
   now_is = ap (λ o. record { order = place.order; units = place.units ++ ticks_in_second (resolution_of o) ∷ []; blocks = place.blocks + 1; packets = place.packets }) (same_options order w block agrees) ∙ is.now_is;
 }
 

@@ -1,6 +1,7 @@
 pub mod Rows
 pub mod Choices
 pub mod OptionList
+pub mod Copying
 pub mod Faults
 pub mod Heads
 pub mod Sequence

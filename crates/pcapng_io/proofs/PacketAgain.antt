@@ -11,9 +11,9 @@ use Rattle.pcapng_io.specs.declared.block_kind.BlockKind.TheVariants.{EnhancedPa
 use Rattle.pcapng_io.specs.declared.item.NgItem.TheVariants.{Packet}
 use Rattle.pcapng_io.specs.declared.item.NgPacket.{NgPacket}
 use Rattle.pcapng_io.specs.declared.place.Place.{Place}
-use Rattle.pcapng_io.specs.Options.{padded}
+use Rattle.pcapng_io.specs.Options.{padded, copied}
 use Rattle.pcapng_io.specs.Times.{nanoseconds_of}
-use Rattle.pcapng_io.specs.Blocks.{first_fault, content_faults, kind_of, kind_in, length_in, interface_in, ticks_in, captured_in, original_in, next_of, item_of, after, packet_of}
+use Rattle.pcapng_io.specs.Blocks.{first_fault, content_faults, kind_of, kind_in, length_in, interface_in, ticks_in, captured_in, original_in, options_at, next_of, item_of, after, packet_of}
 use Rattle.pcapng_io.specs.Written.{packet_length, packet_bytes, FitsPacket}
 use Rattle.pcapng_io.specs.Reader.{head_faults}
 use Rattle.pcapng_io.proofs.Choices.{not_equal}
@@ -66,11 +66,13 @@ same_packet place p fits there =
     let captured : ℕ = captured_in p.order block in
     let time : nanoseconds_of (slice_index place.units (interface_in p.order block)) (ticks_in p.order block) ≡ nanoseconds_of (slice_index place.units p.interface) p.ticks =
     ap (λ i. nanoseconds_of (slice_index place.units i) (ticks_in p.order block)) there.interface ∙ ap (nanoseconds_of (slice_index place.units p.interface)) there.ticks in
-    same_parts p.order (interface_in p.order block) p.interface (ticks_in p.order block) p.ticks (take (length block - 32 - padded captured) (drop (28 + padded captured) block)) p.options
+    same_parts p.order (interface_in p.order block) p.interface (ticks_in p.order block) p.ticks (copied p.order (options_at (28 + padded captured) block)) p.options
     (nanoseconds_of (slice_index place.units (interface_in p.order block)) (ticks_in p.order block) / 1000000000) p.packet.seconds
     (nanoseconds_of (slice_index place.units (interface_in p.order block)) (ticks_in p.order block) % 1000000000) p.packet.fraction (original_in p.order block) p.packet.wire (take captured (drop 28 block)) p.packet.frame
     there.interface there.ticks
-    (ap (λ n. take (length block - 32 - padded n) (drop (28 + padded n) block)) there.captured ∙ ap (λ m. take (m - 32 - padded (length p.packet.frame)) (drop (28 + padded (length p.packet.frame)) block)) (whole_length p) ∙ there.options)
+    (ap (λ n. copied p.order (options_at (28 + padded n) block)) there.captured
+    ∙ ap (λ m. copied p.order (take m (drop (28 + padded (length p.packet.frame)) block))) (let e : length block - (28 + padded (length p.packet.frame) + 4) ≡ packet_length p - 32 - padded (length p.packet.frame) = omega (arith, whole_length p) in e)
+    ∙ ap (copied p.order) there.options ∙ fits.copied)
     (ap (λ t. t / 1000000000) time ∙ sym fits.seconds) (ap (λ t. t % 1000000000) time ∙ sym fits.fraction) there.wire (ap (λ n. take n (drop 28 block)) there.captured ∙ there.frame)
 
 pub packet_again : (place : Place) (p : NgPacket) (tail : List ℕ) → FitsPacket place p →

@@ -9,7 +9,7 @@ use Rattle.pcapng_io.specs.declared.block_kind.BlockKind.TheVariants.{SectionHea
 use Rattle.pcapng_io.specs.declared.item.NgItem.{NgItem}
 use Rattle.pcapng_io.specs.declared.item.NgItem.TheVariants.{Packet, Section, Interface, Carried}
 use Rattle.pcapng_io.specs.declared.place.Place.{Place}
-use Rattle.pcapng_io.specs.Blocks.{next_of, blocks_of, and_rest, with_item, kind_in, order_in}
+use Rattle.pcapng_io.specs.Blocks.{next_of, blocks_of, and_rest, with_item, kind_in, order_in, copied_block, carried}
 use Rattle.pcapng_io.specs.Written.{section_bytes, interface_bytes, item_bytes, as_written, Stands, StandInARow, with_items}
 use Rattle.pcapng_io.proofs.Faults.{long_enough}
 use Rattle.pcapng_io.proofs.Sequence.{blocks_next}
@@ -20,30 +20,33 @@ use Rattle.pcapng_io.proofs.PacketAgain.{packet_again}
 section_again : (place now : Place) (kind : BlockKind) (order : Endian) (block tail : List ℕ) → Alone place kind order block (Section block) now → next_of place (section_bytes block ++ tail) ≡ Ok (Some (Section (section_bytes block), now, tail))
 section_again place now SectionHeader order block tail is =
     alone_more place SectionHeader order (section_bytes block) tail (Section (section_bytes block)) now
-    (section_alone place now order (section_bytes block) block (Section block) (section_agrees block (long_enough place order SectionHeader block is.sound)) is)
-section_again place now InterfaceDescription order block tail is = let e : Interface order block ≡ Section block = is.item_is in absurd cc
+    (section_alone place now order (section_bytes block) block (section_agrees block (long_enough place order SectionHeader block is.sound)) is)
+section_again place now InterfaceDescription order block tail is = let e : Interface order (copied_block order 16 block) ≡ Section block = is.item_is in absurd cc
 section_again place now EnhancedPacket order block tail is = absurd (not_a_section _ block is.item_is)
   where
     not_a_section : (p : Rattle.pcapng_io.specs.declared.item.NgPacket.NgPacket) (block : List ℕ) → Packet p ≡ Section block → ⊥
     not_a_section p block e = absurd cc
-section_again place now Unread order block tail is = let e : Carried block ≡ Section block = is.item_is in absurd cc
-section_again place now Other order block tail is = let e : Carried block ≡ Section block = is.item_is in absurd cc
+section_again place now Unread order block tail is = let e : Carried (carried order block) ≡ Section block = is.item_is in absurd cc
+section_again place now Other order block tail is = let e : Carried (carried order block) ≡ Section block = is.item_is in absurd cc
+
+same_known : (order known : Endian) (xs ys : List ℕ) → Interface order xs ≡ Interface known ys → order ≡ known
+same_known order known xs ys is = cc
 
 interface_again : (place now : Place) (growth : ℕ) (kind : BlockKind) (order known : Endian) (block tail : List ℕ) → Alone place kind order block (Interface known block) now →
     next_of place (interface_bytes growth known block ++ tail) ≡ Ok (Some (Interface known (interface_bytes growth known block), now, tail))
 interface_again place now growth InterfaceDescription order known block tail is =
-    let e : Interface order block ≡ Interface known block = is.item_is in
-    let same : order ≡ known = cc in
+    let same : order ≡ known = same_known order known (copied_block order 16 block) block is.item_is in
     subst (λ o. next_of place (interface_bytes growth o block ++ tail) ≡ Ok (Some (Interface o (interface_bytes growth o block), now, tail))) same
     (alone_more place InterfaceDescription order (interface_bytes growth order block) tail (Interface order (interface_bytes growth order block)) now
-    (interface_alone place now order (interface_bytes growth order block) block (Interface known block) (interface_agrees growth order block (long_enough place order InterfaceDescription block is.sound)) is))
-interface_again place now growth SectionHeader order known block tail is = let e : Section block ≡ Interface known block = is.item_is in absurd cc
+    (interface_alone place now order (interface_bytes growth order block) block (interface_agrees growth order block (long_enough place order InterfaceDescription block is.sound))
+    (subst (λ o. Alone place InterfaceDescription order block (Interface o block) now) (sym same) is)))
+interface_again place now growth SectionHeader order known block tail is = let e : Section (copied_block order 24 block) ≡ Interface known block = is.item_is in absurd cc
 interface_again place now growth EnhancedPacket order known block tail is = absurd (not_an_interface _ known block is.item_is)
   where
     not_an_interface : (p : Rattle.pcapng_io.specs.declared.item.NgPacket.NgPacket) (order : Endian) (block : List ℕ) → Packet p ≡ Interface order block → ⊥
     not_an_interface p order block e = absurd cc
-interface_again place now growth Unread order known block tail is = let e : Carried block ≡ Interface known block = is.item_is in absurd cc
-interface_again place now growth Other order known block tail is = let e : Carried block ≡ Interface known block = is.item_is in absurd cc
+interface_again place now growth Unread order known block tail is = let e : Carried (carried order block) ≡ Interface known block = is.item_is in absurd cc
+interface_again place now growth Other order known block tail is = let e : Carried (carried order block) ≡ Interface known block = is.item_is in absurd cc
 
 pub item_again : (growth : ℕ) (place now : Place) (item : NgItem) (tail : List ℕ) → Stands place item now → next_of place (item_bytes growth item ++ tail) ≡ Ok (Some (as_written growth item, now, tail))
 item_again growth place now (Packet p) tail is = packet_again place p tail is.0 ∙ ap (λ q. Ok (Some (Packet p, q, tail))) (sym is.1)

@@ -1,12 +1,12 @@
 -- Captures byte by byte, with what the definitions give for them.
-use Rattle.std.proofs.Common.{◌≡◌, ◌++◌, ℕ, List, [], ◌∷◌, take, drop, refl}
+use Rattle.std.proofs.Common.{◌≡◌, ◌++◌, ◌-◌, ℕ, List, [], ◌∷◌, take, drop, refl}
 use Rattle.std.specs.Prelude.{Some, None, Ok, Err}
 use Rattle.std.specs.List.{flat_map}
 use Rattle.capture_bytes.specs.declared.order.Endian.TheVariants.{Big, Little}
 use Rattle.pcapng_io.specs.declared.fault.NgFault.TheVariants.{CutBlock, BadBlock, BlockTooLong, BadLink, BadResolution, NoInterface, TooManyRecords, TooManyBlocks}
-use Rattle.pcapng_io.specs.declared.item.NgItem.TheVariants.{Packet, Section, Interface}
+use Rattle.pcapng_io.specs.declared.item.NgItem.TheVariants.{Packet, Section, Interface, Carried}
 use Rattle.pcapng_io.specs.declared.item.NgItem.{NgItem}
-use Rattle.pcapng_io.specs.Options.{options_of, resolution_of}
+use Rattle.pcapng_io.specs.Options.{options_of, copied, resolution_of}
 use Rattle.pcapng_io.specs.Times.{nanoseconds_of, ticks_in_second}
 use Rattle.pcapng_io.specs.declared.place.Place.{Place}
 use Rattle.pcapng_io.specs.Blocks.{start, next_of, blocks_of}
@@ -43,7 +43,7 @@ abbrev items : List NgItem
 items = Section section ∷ Interface Little (interface 1 255 255) ∷ read 42 frame ∷ []
 
 three_blocks : blocks_of start capture ≡ record { items = items; fault = None }
-unfolding blocks_of options_of
+unfolding blocks_of options_of copied
 three_blocks = refl
 
 written_again : flat_map (item_bytes 0) items ≡ capture
@@ -61,7 +61,7 @@ no_limit = refl
 
 -- cut inside the third block
 cut : blocks_of start (take 100 capture) ≡ record { items = Section section ∷ Interface Little (interface 1 255 255) ∷ []; fault = Some (CutBlock 3) }
-unfolding blocks_of options_of
+unfolding blocks_of options_of copied
 cut = refl
 
 -- the faults, in their order
@@ -102,7 +102,7 @@ unfolding options_of
 bad_resolution = refl
 
 nanoseconds : next_of (behind 1 0) (timed 9) ≡ Ok (Some (Interface Little (timed 9), record { order = Little; units = 1000000 ∷ 1000000000 ∷ []; blocks = 2; packets = 0 }, []))
-unfolding options_of
+unfolding options_of copied
 nanoseconds = refl
 
 no_interface : next_of (record { order = Little; units = []; blocks = 2; packets = 0 }) (packet 76 42 frame) ≡ Err (NoInterface 3)
@@ -125,6 +125,46 @@ ended = refl
 second : resolution_of (options_of Big (0 ∷ 9 ∷ 0 ∷ 2 ∷ 3 ∷ 3 ∷ 0 ∷ 0 ∷ 0 ∷ 9 ∷ 0 ∷ 1 ∷ 137 ∷ 0 ∷ 0 ∷ 0 ∷ [])) ≡ 137
 unfolding options_of
 second = refl
+
+-- custom options that must not be copied are left out; what follows the end of the list stays
+left_out : copied Little ((0xac ∷ 0x4b ∷ 3 ∷ 0 ∷ 97 ∷ 98 ∷ 99 ∷ 0 ∷ []) ++ (2 ∷ 0 ∷ 1 ∷ 0 ∷ 120 ∷ 0 ∷ 0 ∷ 0 ∷ []) ++ (0xad ∷ 0x4b ∷ 0 ∷ 0 ∷ []) ++ (0 ∷ 0 ∷ 0 ∷ 0 ∷ []) ++ (0xac ∷ 0x4b ∷ 0 ∷ 0 ∷ []))
+    ≡ (2 ∷ 0 ∷ 1 ∷ 0 ∷ 120 ∷ 0 ∷ 0 ∷ 0 ∷ []) ++ (0 ∷ 0 ∷ 0 ∷ 0 ∷ []) ++ (0xac ∷ 0x4b ∷ 0 ∷ 0 ∷ [])
+unfolding copied
+left_out = refl
+
+over_the_end : copied Big ((0x4b ∷ 0xac ∷ 0 ∷ 0 ∷ []) ++ (0x4b ∷ 0xad ∷ 0 ∷ 5 ∷ 1 ∷ 2 ∷ 3 ∷ 4 ∷ [])) ≡ 0x4b ∷ 0xad ∷ 0 ∷ 5 ∷ 1 ∷ 2 ∷ 3 ∷ 4 ∷ []
+unfolding copied
+over_the_end = refl
+
+others_stay : copied Big (0x0b ∷ 0xac ∷ 0 ∷ 0 ∷ 0x0b ∷ 0xad ∷ 0 ∷ 0 ∷ []) ≡ 0x0b ∷ 0xac ∷ 0 ∷ 0 ∷ 0x0b ∷ 0xad ∷ 0 ∷ 0 ∷ []
+unfolding copied
+others_stay = refl
+
+-- a block of this length in place of another, with bytes of options in front of its end
+abbrev with_custom : ℕ → List ℕ → List ℕ
+with_custom size block = take 4 block ++ (size ∷ 0 ∷ 0 ∷ 0 ∷ []) ++ take (size - 16) (drop 8 block) ++ (0xad ∷ 0x4b ∷ 0 ∷ 0 ∷ []) ++ (size ∷ 0 ∷ 0 ∷ 0 ∷ [])
+
+custom_in_section : next_of start (with_custom 32 section) ≡ Ok (Some (Section section, record { order = Little; units = []; blocks = 1; packets = 0 }, []))
+unfolding copied
+custom_in_section = refl
+
+custom_in_interface : next_of (behind 1 0) (with_custom 24 (interface 1 255 255)) ≡ Ok (Some (Interface Little (interface 1 255 255), record { order = Little; units = 1000000 ∷ 1000000 ∷ []; blocks = 2; packets = 0 }, []))
+unfolding options_of copied
+custom_in_interface = refl
+
+custom_in_packet : next_of (behind 2 0) (with_custom 80 (packet 76 42 frame)) ≡ Ok (Some (read 42 frame, behind 3 1, []))
+unfolding copied
+custom_in_packet = refl
+
+-- so are custom blocks that must not be copied, and no others
+abbrev custom : ℕ → List ℕ
+custom high = 0xad ∷ 0x0b ∷ 0 ∷ high ∷ 16 ∷ 0 ∷ 0 ∷ 0 ∷ 1 ∷ 2 ∷ 3 ∷ 4 ∷ 16 ∷ 0 ∷ 0 ∷ 0 ∷ []
+
+custom_left_out : next_of (behind 2 0) (custom 0x40) ≡ Ok (Some (Carried [], behind 3 0, []))
+custom_left_out = refl
+
+custom_carried : next_of (behind 2 0) (custom 0) ≡ Ok (Some (Carried (custom 0), behind 3 0, []))
+custom_carried = refl
 
 -- times: whole nanoseconds, rounded down, and at most the last one
 half : nanoseconds_of (ticks_in_second 129) 3 ≡ 1500000000

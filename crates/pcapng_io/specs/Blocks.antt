@@ -2,7 +2,7 @@
 use Rattle.std.specs.Prelude.{◌+◌, ◌-◌, ◌*◌, ◌/◌, ◌%◌, ℕ, zero, suc, List, [], ◌∷◌, ◌++◌, length, take, drop, if◌then◌else◌, ◌==◌, ◌&&◌, ◌||◌, not, nat_lt, nat_le, Bool, true, false, is_none, slice_index, Option, Some, None, Result, Ok, Err}
 use Rattle.capture_bytes.specs.declared.order.Endian.{Endian}
 use Rattle.capture_bytes.specs.declared.order.Endian.TheVariants.{Big, Little}
-use Rattle.capture_bytes.specs.Numbers.{number_at}
+use Rattle.capture_bytes.specs.Numbers.{number_at, bytes_of}
 use Rattle.pcapng_io.specs.declared.block_kind.BlockKind.{BlockKind}
 use Rattle.pcapng_io.specs.declared.block_kind.BlockKind.TheVariants.{SectionHeader, InterfaceDescription, EnhancedPacket, Unread, Other}
 use Rattle.pcapng_io.specs.declared.fault.NgFault.{NgFault}
@@ -11,7 +11,7 @@ use Rattle.pcapng_io.specs.declared.item.NgItem.{NgItem}
 use Rattle.pcapng_io.specs.declared.item.NgItem.TheVariants.{Packet, Section, Interface, Carried}
 use Rattle.pcapng_io.specs.declared.item.NgPacket.{NgPacket}
 use Rattle.pcapng_io.specs.declared.place.Place.{Place}
-use Rattle.pcapng_io.specs.Options.{BlockOption, padded, options_of, resolution_of}
+use Rattle.pcapng_io.specs.Options.{BlockOption, padded, options_of, copied, resolution_of}
 use Rattle.pcapng_io.specs.Times.{is_resolution, ticks_in_second, nanoseconds_of}
 
 -- before the first block
@@ -73,12 +73,16 @@ order_in order kind bytes = if is_section kind then (if number_at Big 4 8 bytes 
 abbrev pub length_in : Endian → List ℕ → ℕ
 length_in order bytes = number_at order 4 4 bytes
 
+-- the bytes of the options that begin at a place, up to the length at the block's end
+abbrev pub options_at : ℕ → List ℕ → List ℕ
+options_at at block = take (length block - (at + 4)) (drop at block)
+
 -- an interface: its link type, its options, and its resolution
 abbrev pub link_in : Endian → List ℕ → ℕ
 link_in order block = number_at order 2 8 block
 
 abbrev pub options_in : Endian → List ℕ → Option (List BlockOption)
-options_in order block = options_of order (take (length block - 20) (drop 16 block))
+options_in order block = options_of order (options_at 16 block)
 
 abbrev pub resolution_in : Endian → List ℕ → ℕ
 resolution_in order block = resolution_of (options_in order block)
@@ -144,13 +148,26 @@ content_faults place order kind block =
     ∷ (place.blocks + 1 == 1099511627776, TooManyBlocks)
     ∷ []
 
+-- a block with these options in place of its own, which begin at a place, and with the length that follows from them
+abbrev pub with_options : Endian → ℕ → List ℕ → List ℕ → List ℕ
+with_options order at options block =
+    take 4 block ++ bytes_of order 4 (at + length options + 4) ++ take (at - 8) (drop 8 block) ++ options ++ bytes_of order 4 (at + length options + 4)
+
+-- the block without the options that aren't copied, if it has such
+abbrev pub copied_block : Endian → ℕ → List ℕ → List ℕ
+copied_block order at block = if length (copied order (options_at at block)) == length (options_at at block) then block else with_options order at (copied order (options_at at block)) block
+
+-- a block of another type as it is passed on: nothing of a custom block that a changed capture must not have ("Custom Block")
+abbrev pub carried : Endian → List ℕ → List ℕ
+carried order block = if number_at order 4 0 block == 0x40000bad then [] else block
+
 -- the packet in a block, for an interface with this number of ticks in a second
 abbrev pub packet_of : Endian → ℕ → List ℕ → NgPacket
 packet_of order in_second block = record {
   order = order;
   interface = interface_in order block;
   ticks = ticks_in order block;
-  options = take (length block - 32 - padded (captured_in order block)) (drop (28 + padded (captured_in order block)) block);
+  options = copied order (options_at (28 + padded (captured_in order block)) block);
   packet = record {
     seconds = nanoseconds_of in_second (ticks_in order block) / 1000000000;
     fraction = nanoseconds_of in_second (ticks_in order block) % 1000000000;
@@ -161,11 +178,11 @@ packet_of order in_second block = record {
 
 -- what a block without a fault gives
 abbrev pub item_of : Place → Endian → BlockKind → List ℕ → NgItem
-item_of place order SectionHeader block = Section block
-item_of place order InterfaceDescription block = Interface order block
+item_of place order SectionHeader block = Section (copied_block order 24 block)
+item_of place order InterfaceDescription block = Interface order (copied_block order 16 block)
 item_of place order EnhancedPacket block = Packet (packet_of order (slice_index place.units (interface_in order block)) block)
-item_of place order Unread block = Carried block
-item_of place order Other block = Carried block
+item_of place order Unread block = Carried (carried order block)
+item_of place order Other block = Carried (carried order block)
 
 -- and the place before the next one
 abbrev pub after : Place → Endian → BlockKind → List ℕ → Place

@@ -8,7 +8,7 @@ use Rattle.pcapng_io.specs.declared.item.NgItem.TheVariants.{Packet, Section, In
 use Rattle.pcapng_io.specs.declared.item.NgPacket.{NgPacket}
 use Rattle.pcapng_io.specs.declared.place.Place.{Place}
 use Rattle.pcapng_io.specs.Blocks.{Blocks, next_of}
-use Rattle.pcapng_io.specs.Options.{padded}
+use Rattle.pcapng_io.specs.Options.{padded, copied as copied_of}
 use Rattle.pcapng_io.specs.Times.{nanoseconds_of}
 
 -- a snaplen that grew by this; 0 means no limit and stays
@@ -53,7 +53,7 @@ item_bytes growth (Interface order block) = interface_bytes growth order block
 item_bytes growth (Carried block) = block
 
 -- A packet that may come after a place: of an interface of its section, at the time of its ticks, with a frame and a
--- block of accepted lengths, and within the packets and blocks that are counted.
+-- block of accepted lengths, with no option that isn't copied, and within the packets and blocks that are counted.
 pub record FitsPacket (place : Place) (p : NgPacket) : Type 0 where
   pub order : p.order ≡ place.order
   pub known : p.interface < length place.units
@@ -64,6 +64,7 @@ pub record FitsPacket (place : Place) (p : NgPacket) : Type 0 where
   pub wire : p.packet.wire < 2 ^ 32
   pub short : length p.packet.frame ≤ 262144
   pub options : length p.options % 4 ≡ 0
+  pub copied : copied_of p.order p.options ≡ p.options
   pub size : packet_length p ≤ 16777216
   pub few : place.packets < 4294967295
   pub counted : place.blocks + 1 < 1099511627776

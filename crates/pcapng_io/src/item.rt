@@ -11,7 +11,7 @@ pub struct NgPacket {
     pub interface: u32,
     /// When it was captured, in the ticks of its interface.
     pub ticks: u64,
-    /// The options after the frame, as they were read.
+    /// The options after the frame, without those that must not be copied.
     pub options: Frame,
     /// The packet. Its time counts nanoseconds.
     pub packet: PcapRecord,
@@ -22,15 +22,15 @@ pub struct NgPacket {
 pub enum NgItem {
     /// A packet.
     Packet(NgPacket),
-    /// A section header block, whole.
+    /// A section header block, without the options that must not be copied.
     Section(Frame),
-    /// An interface description block, whole.
+    /// An interface description block, without the options that must not be copied.
     Interface {
         /// The order of the numbers in it.
         order: Endian,
         /// The block.
         block: Frame,
     },
-    /// Any other block, whole.
+    /// Any other block, whole; no bytes of a custom block that must not be copied.
     Carried(Frame),
 }

@@ -1,6 +1,6 @@
 //! What a block without a fault is read as, and the place after it.
 ghost use Rattle.std.specs.Prelude.{◌≡◌, ◌≤◌, ◌<◌, ◌+◌, ◌%◌, IfOk, OnOk, is_some, true, length, take, drop};
-ghost use Rattle.pcapng_io.specs.Blocks.{after, captured_in, item_of, options_in, packet_of, resolution_in, ticks_in};
+ghost use Rattle.pcapng_io.specs.Blocks.{after, captured_in, carried, copied_block, item_of, options_in, packet_of, resolution_in, ticks_in, with_options};
 ghost use Rattle.pcapng_io.specs.Times.{is_resolution, ticks_in_second};
 ghost use Rattle.pcapng_io.specs.Options.{padded};
 ghost use Rattle.pcapng_io.specs.Reader.{ArePositive, IsSound};
@@ -8,9 +8,10 @@ ghost use Rattle.pcapng_io.specs.Reader.{ArePositive, IsSound};
 use crate::block_kind::BlockKind;
 use crate::contents::{PACKET_FRAMING, resolution_in};
 use crate::item::{NgItem, NgPacket};
-use crate::options::padded;
+use crate::options::{copied, padded};
 use crate::place::Place;
 use crate::time::{nanoseconds, ticks_in_second};
+use crate::writer::spelled;
 use capture_bytes::{Endian, PcapRecord, u32_at};
 use item_list::Items;
 use packet_fields::Frame;
@@ -18,6 +19,14 @@ use std::alloc::{AllocError, Global};
 
 // Where a packet's frame begins in its block.
 const FRAME_AT: usize = 28;
+
+// Where the options of a section header and of an interface begin.
+const SECTION_OPTIONS: usize = 24;
+
+const INTERFACE_OPTIONS: usize = 16;
+
+// The type of a custom block that must not be copied into a capture that was changed.
+const UNCOPIED_BLOCK: u32 = 0x4000_0bad;
 
 const SECOND: u64 = 1_000_000_000;
 
@@ -43,14 +52,14 @@ pub fn item_in(
         BlockKind::SectionHeader => {
             place.order = order;
             place.units = Items::new(Vec::new(alloc));
-            Ok(NgItem::Section(Frame::new(block)))
+            Ok(NgItem::Section(copied_block(alloc, order, SECTION_OPTIONS, block)?))
         }
         BlockKind::InterfaceDescription => {
             let in_second = in_second_of(order, &block);
             match place.units.push(in_second) {
                 Ok(()) => Ok(NgItem::Interface {
                     order,
-                    block: Frame::new(block),
+                    block: copied_block(alloc, order, INTERFACE_OPTIONS, block)?,
                 }),
                 Err(_) => Err(AllocError),
             }
@@ -61,9 +70,68 @@ pub fn item_in(
             let in_second = place.units.as_slice()[interface];
             Ok(NgItem::Packet(packet_in(alloc, order, in_second, block)?))
         }
-        BlockKind::Unread => Ok(NgItem::Carried(Frame::new(block))),
-        BlockKind::Other => Ok(NgItem::Carried(Frame::new(block))),
+        BlockKind::Unread => Ok(NgItem::Carried(carried(order, block))),
+        BlockKind::Other => Ok(NgItem::Carried(carried(order, block))),
     }
+}
+
+// A block without the options that must not be copied. Its options begin at `at`.
+fn copied_block(
+    alloc: Global,
+    order: Endian,
+    at: usize,
+    block: Vec<u8>,
+) -> Result<Frame, AllocError>
+    requires begins { 8 ≤ at }
+    requires low { at ≤ 24 }
+    requires aligned { at % 4 ≡ 0 }
+    requires room { at + 4 ≤ length block.items }
+    requires most { length block.items ≤ 16777216 }
+    requires whole { length block.items % 4 ≡ 0 }
+    ensures { IfOk result (λ frame. frame ≡ copied_block order at block.items) }
+{
+    let end = block.len() - 4;
+    let options = copied(alloc, order, &block[at..end])?;
+    if options.len() == end - at {
+        return Ok(Frame::new(block));
+    }
+    with_options(alloc, order, at, &options, &block)
+}
+
+// A block with these options in place of its own, which begin at `at`.
+fn with_options(
+    alloc: Global,
+    order: Endian,
+    at: usize,
+    options: &[u8],
+    block: &[u8],
+) -> Result<Frame, AllocError>
+    requires begins { 8 ≤ at }
+    requires low { at ≤ 24 }
+    requires room { at + 4 ≤ length block.now }
+    requires most { length options.now ≤ 16777216 }
+    ensures { IfOk result (λ frame. frame ≡ with_options order at options.now block.now) }
+{
+    let size = spelled(order, (at + options.len() + 4) as u32);
+    let mut bytes = Vec::new(alloc);
+    bytes.extend_from_slice(&block[..4])?;
+    bytes.extend_from_slice(&size)?;
+    bytes.extend_from_slice(&block[8..at])?;
+    bytes.extend_from_slice(options)?;
+    bytes.extend_from_slice(&size)?;
+    Ok(Frame::new(bytes))
+}
+
+// A block of another type as it is passed on: no bytes of a custom block that must not be copied.
+fn carried(order: Endian, block: Vec<u8>) -> Frame
+    requires least { 12 ≤ length block.items }
+    ensures { result ≡ carried order block.items }
+{
+    let mut bytes = block;
+    if u32_at(order, &bytes, 0) == UNCOPIED_BLOCK {
+        bytes.truncate(0);
+    }
+    Frame::new(bytes)
 }
 
 // The packet in a block, whose interface has `in_second` ticks a second.
@@ -76,6 +144,7 @@ fn packet_in(
 ) -> Result<NgPacket, AllocError>
     requires some { 0 < in_second }
     requires most { length block.items ≤ 16777216 }
+    requires whole { length block.items % 4 ≡ 0 }
     requires data { 32 + padded (captured_in order block.items) ≤ length block.items }
     ensures { IfOk result (λ packet. packet ≡ packet_of order in_second block.items) }
 {
@@ -85,7 +154,7 @@ fn packet_in(
     let wire = u32_at(order, &block, 24);
     let captured = u32_at(order, &block, 20) as usize;
     let data = padded(captured);
-    let options = block[FRAME_AT + data..block.len() - 4].to_vec(alloc)?;
+    let options = copied(alloc, order, &block[FRAME_AT + data..block.len() - 4])?;
     Ok(NgPacket {
         order,
         interface,

@@ -74,7 +74,8 @@ fn grown(snaplen: u32, growth: u32) -> u32
     }
 }
 
-fn spelled(order: Endian, number: u32) -> [u8; 4]
+// The bytes of a number.
+pub fn spelled(order: Endian, number: u32) -> [u8; 4]
     ensures { result ≡ bytes_of order 4 number }
 {
     let mut bytes = [0; 4];
