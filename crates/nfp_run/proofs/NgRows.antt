@@ -3,7 +3,7 @@ use Rattle.std.specs.Prelude.{◌≡◌, ℕ, List, [], ◌∷◌, ◌++◌, ref
 use Rattle.std.specs.Fmt.{digits}
 use Rattle.pcapng_io.specs.declared.fault.NgFault.TheVariants.{CutBlock}
 use Rattle.pcapng_io.specs.Blocks.{blocks_of}
-use Rattle.pcapng_io.specs.Options.{options_of}
+use Rattle.pcapng_io.specs.Options.{options_of, copied as copied_options}
 use Rattle.pcapng_io.specs.Written.{packet_head}
 use Rattle.packet_fields.specs.Frames.{tags_len}
 use Rattle.packet_fields.specs.Packets.{is_ipv4, is_ipv6, has_transport}
@@ -70,7 +70,7 @@ passed : due_of_run (worth deny) (section ++ (interface 255 ++ block 207 1)) ≡
   });
   note = codes "done records 1 emitted 1 dropped 0\n";
 }
-unfolding worth making_of profile_by step_by lines_of deny policy_of_utf8 after_line orders_from answer_of edges_of taken stuck named_cycle from_earliest cycle_back first_refusal section interface block blocks_of options_of packet_head ng_out_bytes tags_len is_ipv4 is_ipv6 walk fates long cut_chain fates_among chains_after fates_of chains_behind report_bytes drop_text drop_lines total_line last_line ng_text summary done_text digits words is_changed change_sum has_same_places has_transport passes line_of function_text chain_lines copies_due copies_lines copies_through passed_on copies_made written_in graph_of placed holds_back is_forbidden branch_reads branch_writes touch_of stage_parts mode_of copies pair_of first_forbidden pairs actions all_actions is_copied copied
+unfolding worth making_of profile_by step_by lines_of deny policy_of_utf8 after_line orders_from answer_of edges_of taken stuck named_cycle from_earliest cycle_back first_refusal section interface block blocks_of options_of copied_options packet_head ng_out_bytes tags_len is_ipv4 is_ipv6 walk fates long cut_chain fates_among chains_after fates_of chains_behind report_bytes drop_text drop_lines total_line last_line ng_text summary done_text digits words is_changed change_sum has_same_places has_transport passes line_of function_text chain_lines copies_due copies_lines copies_through passed_on copies_made written_in graph_of placed holds_back is_forbidden branch_reads branch_writes touch_of stage_parts mode_of copies pair_of first_forbidden pairs actions all_actions is_copied copied
 passed = refl
 
 -- for a packet that is dropped nothing goes out
@@ -82,7 +82,7 @@ dropped : due_of_run (worth deny) (section ++ (interface 255 ++ block 199 9)) �
   });
   note = codes "done records 1 emitted 0 dropped 1\n";
 }
-unfolding worth making_of profile_by step_by lines_of deny policy_of_utf8 after_line orders_from answer_of edges_of taken stuck named_cycle from_earliest cycle_back first_refusal section interface block blocks_of options_of packet_head ng_out_bytes tags_len is_ipv4 is_ipv6 walk fates long cut_chain fates_among chains_after fates_of chains_behind report_bytes drop_text drop_lines total_line last_line ng_text summary done_text digits words is_changed change_sum has_same_places has_transport passes line_of function_text chain_lines copies_due copies_lines copies_through passed_on copies_made written_in graph_of placed holds_back is_forbidden branch_reads branch_writes touch_of stage_parts mode_of copies pair_of first_forbidden pairs actions all_actions is_copied copied
+unfolding worth making_of profile_by step_by lines_of deny policy_of_utf8 after_line orders_from answer_of edges_of taken stuck named_cycle from_earliest cycle_back first_refusal section interface block blocks_of options_of copied_options packet_head ng_out_bytes tags_len is_ipv4 is_ipv6 walk fates long cut_chain fates_among chains_after fates_of chains_behind report_bytes drop_text drop_lines total_line last_line ng_text summary done_text digits words is_changed change_sum has_same_places has_transport passes line_of function_text chain_lines copies_due copies_lines copies_through passed_on copies_made written_in graph_of placed holds_back is_forbidden branch_reads branch_writes touch_of stage_parts mode_of copies pair_of first_forbidden pairs actions all_actions is_copied copied
 dropped = refl
 
 -- cut inside the packet's block: the two blocks before it stay
@@ -94,10 +94,10 @@ cut : due_of_run (worth deny) (take 100 (section ++ (interface 255 ++ block 207 
   });
   note = codes "capture: cut block 3\n";
 }
-unfolding worth making_of profile_by step_by lines_of deny policy_of_utf8 after_line orders_from answer_of edges_of taken stuck named_cycle from_earliest cycle_back first_refusal section interface block blocks_of options_of packet_head ng_out_bytes tags_len is_ipv4 is_ipv6 walk fates long cut_chain fates_among chains_after fates_of chains_behind report_bytes drop_text drop_lines total_line last_line ng_text summary done_text digits words is_changed change_sum has_same_places has_transport passes line_of function_text chain_lines copies_due copies_lines copies_through passed_on copies_made written_in graph_of placed holds_back is_forbidden branch_reads branch_writes touch_of stage_parts mode_of copies pair_of first_forbidden pairs actions all_actions is_copied copied
+unfolding worth making_of profile_by step_by lines_of deny policy_of_utf8 after_line orders_from answer_of edges_of taken stuck named_cycle from_earliest cycle_back first_refusal section interface block blocks_of options_of copied_options packet_head ng_out_bytes tags_len is_ipv4 is_ipv6 walk fates long cut_chain fates_among chains_after fates_of chains_behind report_bytes drop_text drop_lines total_line last_line ng_text summary done_text digits words is_changed change_sum has_same_places has_transport passes line_of function_text chain_lines copies_due copies_lines copies_through passed_on copies_made written_in graph_of placed holds_back is_forbidden branch_reads branch_writes touch_of stage_parts mode_of copies pair_of first_forbidden pairs actions all_actions is_copied copied
 cut = refl
 
 -- a first block that is cut leaves nothing to write
 cut_first : due_of_run (worth deny) (take 9 section) ≡ nothing_but (CaptureNg (CutBlock 1)) (codes "capture: cut block 1\n")
-unfolding worth making_of profile_by step_by lines_of deny policy_of_utf8 after_line orders_from answer_of edges_of taken stuck named_cycle from_earliest cycle_back first_refusal section interface block blocks_of options_of packet_head ng_out_bytes tags_len is_ipv4 is_ipv6 walk fates long cut_chain fates_among chains_after fates_of chains_behind report_bytes drop_text drop_lines total_line last_line ng_text summary done_text digits words is_changed change_sum has_same_places has_transport passes line_of function_text chain_lines copies_due copies_lines copies_through passed_on copies_made written_in graph_of placed holds_back is_forbidden branch_reads branch_writes touch_of stage_parts mode_of copies pair_of first_forbidden pairs actions all_actions is_copied copied
+unfolding worth making_of profile_by step_by lines_of deny policy_of_utf8 after_line orders_from answer_of edges_of taken stuck named_cycle from_earliest cycle_back first_refusal section interface block blocks_of options_of copied_options packet_head ng_out_bytes tags_len is_ipv4 is_ipv6 walk fates long cut_chain fates_among chains_after fates_of chains_behind report_bytes drop_text drop_lines total_line last_line ng_text summary done_text digits words is_changed change_sum has_same_places has_transport passes line_of function_text chain_lines copies_due copies_lines copies_through passed_on copies_made written_in graph_of placed holds_back is_forbidden branch_reads branch_writes touch_of stage_parts mode_of copies pair_of first_forbidden pairs actions all_actions is_copied copied
 cut_first = refl

@@ -217,7 +217,7 @@ unfolding grown_snaplen policy_of_utf8 after_line
 one_tagger = refl
 
 -- the taggers of all chains count, and what takes a tag away doesn't
-taggers_of_both : grown_snaplen 0 (policy_of_utf8 (codes "nfp 1\nchain a\nfn t tagger\nfn u untagger\nfn v tagger\nchain b\nfn w tagger\n")) ≡ 12
+taggers_of_both : grown_snaplen 1 (policy_of_utf8 (codes "nfp 1\nchain a\nfn t tagger\nfn u untagger\nfn v tagger\nchain b\nfn w tagger\n")) ≡ 13
 unfolding grown_snaplen policy_of_utf8 after_line
 taggers_of_both = refl
 
@@ -233,6 +233,11 @@ one_entry = refl
 entry_tagger_and_exit : grown_snaplen 65535 (policy_of_utf8 (codes "nfp 1\nchain main\nfn t tagger\nfn e encap\nfn d decap\n")) ≡ 65559
 unfolding grown_snaplen policy_of_utf8 after_line
 entry_tagger_and_exit = refl
+
+-- 0 means that there is no limit, and stays
+no_snaplen : grown_snaplen 0 (policy_of_utf8 (codes "nfp 1\nchain main\nfn t tagger\nfn e encap\n")) ≡ 0
+unfolding grown_snaplen policy_of_utf8 after_line
+no_snaplen = refl
 
 -- there is no larger number of 32 bits
 largest_snaplen : grown_snaplen 4294967293 (policy_of_utf8 (codes "nfp 1\nchain main\nfn t tagger\n")) ≡ 4294967295

@@ -1,5 +1,5 @@
 -- Believed: the head that is written: its snaplen grows by the greatest growth of a frame.
-use Rattle.std.specs.Prelude.{ℕ, ◌+◌, min, if◌then◌else◌}
+use Rattle.std.specs.Prelude.{ℕ, ◌+◌, min, if◌then◌else◌, ◌==◌}
 use Rattle.std.specs.List.{sum_by}
 use Rattle.action_profile.specs.Profiles.{profile_of}
 use Rattle.action_profile.specs.declared.kind.Kind.{Kind}
@@ -25,6 +25,7 @@ growth_among chains = sum_by growth_in chains.declared
 abbrev pub growth_of : Chains → ℕ
 growth_of chains = min (growth_among chains) 4294967295
 
--- the head that was read, its snaplen grown by as much, up to the largest number that fits in a head
+-- the head that was read, its snaplen grown by as much, up to the largest number that fits in a head; 0 means no limit
+-- and stays
 abbrev pub written_head : Chains → CaptureHead → CaptureHead
-written_head chains head = record head { snaplen = min (head.snaplen + growth_among chains) 4294967295 }
+written_head chains head = record head { snaplen = if head.snaplen == 0 then 0 else min (head.snaplen + growth_among chains) 4294967295 }

@@ -15,12 +15,16 @@ const TAG_LEN: u32 = 4;
 const OUTER_LEN: u32 = 20;
 
 /// The head of the written capture, for a capture with this head that runs through the chains. Some of their functions
-/// may make a frame longer.
+/// may make a frame longer. A snaplen of 0 means that there is no limit, and stays 0.
 pub fn written_head(head: &CaptureHead, service: &Service) -> CaptureHead
     ensures { result ≡ written_head (chains_of service.now.chains) head.now }
 {
     CaptureHead {
-        snaplen: grown(head.snaplen, service.chains.as_slice()),
+        snaplen: if head.snaplen == 0 {
+            0
+        } else {
+            grown(head.snaplen, service.chains.as_slice())
+        },
         ..*head
     }
 }
