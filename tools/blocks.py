@@ -12,6 +12,8 @@ ORDER_MAGIC = 0x1A2B3C4D
 COMMENT, HARDWARE, SYSTEM, APPLICATION = 1, 2, 3, 4
 IF_NAME, IF_RESOLUTION, IF_OFFSET = 2, 9, 14
 RECEIVED, LOST = 4, 5
+# Custom options of text and of bytes. The latter two, and a block, must not be copied into a capture that was changed.
+CUSTOM_TEXT, CUSTOM_BYTES, UNCOPIED_TEXT, UNCOPIED_BYTES, UNCOPIED = 2988, 2989, 19372, 19373, 0x40000BAD
 OF_IPV4, OF_IPV6 = 1, 2
 
 MICROSECONDS, NANOSECONDS = 6, 9

@@ -18,6 +18,8 @@ SECTION, INTERFACE, OLD_PACKET, SIMPLE_PACKET, PACKET = 0x0A0D0D0A, 1, 2, 3, 6
 SECTION_LEAD = SECTION.to_bytes(4, 'big')
 ORDER_MAGIC = 0x1A2B3C4D
 FIXED = {SECTION: 16, INTERFACE: 8, PACKET: 20}
+# A custom block, and custom options of text and of bytes, that must not be copied into a capture that was changed.
+UNCOPIED, UNCOPIED_OPTIONS = 0x40000BAD, (19372, 19373)
 LONGEST_BLOCK = 2**24
 END_OF_OPTIONS, RESOLUTION = 0, 9
 TICKS_A_SECOND = 10**6  # if an interface has no resolution
@@ -59,6 +61,11 @@ def in_32_bits(value):
     return min(max(value, 0), 0xFFFFFFFF)
 
 
+def grown(snaplen, growth):
+    """A snaplen of 0 means that there is no limit."""
+    return in_32_bits(snaplen + growth) if snaplen else 0
+
+
 def written(capture, frames, growth):
     """What is written for a capture whose frames may be longer by `growth` bytes. A frame that was dropped is None."""
     left = iter(frames)
@@ -93,7 +100,7 @@ def head_fault(data):
 def classic_head(order, head, growth):
     """The snaplen grows by what frames may grow, whether or not one does."""
     (snaplen,) = struct.unpack(order + 'I', head[16:20])
-    return head[:16] + struct.pack(order + 'I', in_32_bits(snaplen + growth)) + head[20:]
+    return head[:16] + struct.pack(order + 'I', grown(snaplen, growth)) + head[20:]
 
 
 def classic_record(order, stamp, original, frame):
@@ -206,21 +213,37 @@ def ticks_a_second(block, number):
     return base**power
 
 
+def copied_options(order, data):
+    """Options without the custom ones that must not be copied. What follows the end of the list, or an option that runs past it, stays."""
+    kept, place = b'', 0
+    while place < len(data):
+        code, length = struct.unpack_from(order + 'HH', data, place)
+        behind = place + 4 + padded(length)
+        if code == END_OF_OPTIONS or behind > len(data):
+            break
+        kept += b'' if code in UNCOPIED_OPTIONS else data[place:behind]
+        place = behind
+    return kept + data[place:]
+
+
+def spelled(order, kind, body):
+    length = struct.pack(order + 'I', 12 + len(body))
+    return struct.pack(order + 'I', kind) + length + body + length
+
+
 def written_section(block):
     """The length of the section is written as unknown."""
-    return block.data[:16] + b'\xff' * 8 + block.data[24:]
+    return spelled(block.order, SECTION, block.body[:8] + b'\xff' * 8 + copied_options(block.order, block.body[16:]))
 
 
 def written_interface(block, growth):
-    """A snaplen of 0 means that there is no limit."""
     (snaplen,) = block.numbers('I', 12)
-    return block.data[:12] + struct.pack(block.order + 'I', in_32_bits(snaplen + growth) if snaplen else 0) + block.data[16:]
+    fixed = block.body[:4] + struct.pack(block.order + 'I', grown(snaplen, growth))
+    return spelled(block.order, INTERFACE, fixed + copied_options(block.order, block.body[8:]))
 
 
 def written_packet(order, place, options, original, frame):
-    body = place + struct.pack(order + 'II', len(frame), original) + frame.ljust(padded(len(frame)), b'\0') + options
-    length = struct.pack(order + 'I', 12 + len(body))
-    return struct.pack(order + 'I', PACKET) + length + body + length
+    return spelled(order, PACKET, place + struct.pack(order + 'II', len(frame), original) + frame.ljust(padded(len(frame)), b'\0') + options)
 
 
 def packet_of(block, number, interfaces, before):
@@ -236,7 +259,7 @@ def packet_of(block, number, interfaces, before):
     if behind > len(block.body):
         raise Fault(f'bad block {number}')
     time = ((high << 32) + low) * 1_000_000_000 // interfaces[interface]
-    spell = spelling(written_packet, block.order, block.body[:12], block.body[behind:])
+    spell = spelling(written_packet, block.order, block.body[:12], copied_options(block.order, block.body[behind:]))
     return Record(min(time, LAST_MOMENT), original, block.body[20 : 20 + captured], spell)
 
 
@@ -250,6 +273,8 @@ def part_of(block, number, interfaces, before):
     if block.kind == INTERFACE:
         interfaces.append(ticks_a_second(block, number))
         return Other(lambda growth: written_interface(block, growth))
+    if block.kind == UNCOPIED:
+        return Other(lambda _: b'')
     return packet_of(block, number, interfaces, before) if block.kind == PACKET else Other(lambda _: block.data)
 
 

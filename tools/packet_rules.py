@@ -228,10 +228,19 @@ def adjust_sums(packet, after):
     if at + 2 > header.end or (packet.proto == UDP and old == 0):
         return
     # A field that nobody wrote changes no sum, and all but the last have whole words.
-    covered = [slice(*packet.places[field]) for field in ('src', 'dst', 'sport', 'dport', 'payload') if field in packet.written]
+    covered = [slice(*packet.places[field]) for field in ('src', 'dst', 'sport', 'dport') if field in packet.written]
+    if 'payload' in packet.written:
+        covered.append(slice(packet.places['payload'][0], covered_end(packet, before)))
     was, now = (b''.join(frame[part] for part in covered) for frame in (before, after))
     new = adjusted(old, was, now)
     put_sum(after, at, 0xFFFF if packet.proto == UDP and new == 0 and was != now else new)
+
+
+def covered_end(packet, frame):
+    """Where the payload ends for a checksum of TCP or UDP: that of UDP covers what its own length says, if that counts its header (RFC 768)."""
+    begin, end = packet.places['payload']
+    counted = number(frame[begin - 4 : begin - 2]) if packet.proto == UDP else 0
+    return min(end, begin - 8 + counted) if counted >= 8 else end
 
 
 def sum_at(frame, at):

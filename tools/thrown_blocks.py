@@ -55,8 +55,9 @@ def some_resolution(rng):
 
 
 def some_options(rng):
-    """Options of a packet: flags, a hash, an identity and unknown codes."""
-    known = [(2, bytes(4)), (3, b'\x02abcd'), (5, rng.randbytes(8)), (0x8001, b''), (7, b'x' * rng.randrange(9)), (2988, rng.randbytes(5))]
+    """Options of a packet: flags, a hash, an identity, unknown codes, and custom ones, of which some must not be copied."""
+    known = [(2, bytes(4)), (3, b'\x02abcd'), (5, rng.randbytes(8)), (0x8001, b''), (7, b'x' * rng.randrange(9)), (blocks.CUSTOM_TEXT, rng.randbytes(5))]
+    known += [(code, rng.randbytes(rng.choice([4, 5, 9]))) for code in (blocks.UNCOPIED_TEXT, blocks.UNCOPIED_BYTES)]
     return [rng.choice(known) for _ in range(rng.choice([0, 0, 0, 1, 2]))]
 
 
@@ -92,7 +93,7 @@ def some_other(rng):
 
 def made_section(rng, made_frame):
     interfaces = [some_interface(rng) for _ in range(rng.choice([0, 1, 1, 2, 3]))]
-    told = rng.choice([[], [], [(blocks.COMMENT, b'a note')], [(blocks.APPLICATION, b'made'), (blocks.SYSTEM, b'none')]])
+    told = rng.choice([[], [], [(blocks.COMMENT, b'a note')], [(blocks.APPLICATION, b'made'), (blocks.SYSTEM, b'none')], some_options(rng)])
     parts = [blocks.Section(rng.choice('<>'), told), *interfaces]
     for _ in range(rng.choice([0, 1, 2, 4, 8])):
         parts.append(some_packet(rng, made_frame, interfaces) if interfaces and rng.randrange(5) else some_other(rng))
