@@ -49,7 +49,7 @@ exports_nothing = refl
 takes_packets : packet_count 0 ∷ packet_count 1 ∷ packet_count 30 ∷ packet_count 31 ∷ packet_count 60 ∷ packet_count 61 ∷ [] ≡ 0 ∷ 1 ∷ 1 ∷ 2 ∷ 2 ∷ 3 ∷ []
 takes_packets = refl
 
--- numbers stop at the largest of 32 bits, and times before the first record count as the first record's
+-- numbers stop at the largest of 32 bits, and times before the origin count as the origin
 abbrev early : Span5
 early = record { origin = 5000000000; greatest = 9223372036854775807 }
 
@@ -59,6 +59,6 @@ stops = refl
 starts : (record_of early (record of_one { begun = 4999999999 })).first ≡ 0
 starts = refl
 
--- the export is 4294967295 milliseconds after the first record at most, and its seconds are since 1970
+-- the export is 4294967295 milliseconds after the origin at most, and its seconds are since 1970
 late : (header_of early 30 7).sys_uptime ∷ (header_of early 30 7).unix_secs ∷ (header_of early 30 7).unix_nsecs ∷ (header_of early 30 7).flow_sequence ∷ (header_of early 30 7).count ∷ [] ≡ 4294967295 ∷ 4294972 ∷ 295000000 ∷ 30 ∷ 7 ∷ []
 late = refl

@@ -12,7 +12,7 @@ use Rattle.flow_export.specs.Layouts.{header_bytes, record_bytes}
 abbrev pub up_to_32 : ℕ → ℕ
 up_to_32 n = min n (2 ^ 32 - 1)
 
--- the milliseconds from the first record of the capture to a time
+-- the milliseconds from the least time of the capture's records to a time
 abbrev pub millis : Span5 → ℕ → ℕ
 millis span time = up_to_32 ((time - span.origin) / 1000000)
 

@@ -53,9 +53,9 @@ pub struct Record {
     pub output: u16,
     pub d_pkts: u32,
     pub d_octets: u32,
-    /// The exporter's uptime at the flow's first packet, in milliseconds.
+    /// The exporter's uptime at the least time of the flow's packets, in milliseconds.
     pub first: u32,
-    /// The exporter's uptime at the flow's last packet, in milliseconds.
+    /// The exporter's uptime at the greatest time of the flow's packets, in milliseconds.
     pub last: u32,
     pub srcport: u16,
     pub dstport: u16,

@@ -10,10 +10,10 @@ const NANOS_OF_A_MILLI: u64 = 1_000_000;
 
 const NANOS_OF_A_SECOND: u64 = 1_000_000_000;
 
-/// From the first record of a capture to its latest, in nanoseconds since 1970.
+/// From the least time of a capture's records to the greatest, in nanoseconds since 1970.
 #[derive(Clone, Copy, PartialEq, Eq, Debug)]
 pub struct Span5 {
-    /// The time of the first record.
+    /// The least time of a record.
     pub origin: u64,
     /// The greatest time of a record.
     pub greatest: u64,
@@ -70,7 +70,7 @@ impl Span5 {
         }
     }
 
-    /// The milliseconds from the first record to a time.
+    /// The milliseconds from the least time of the records to a time.
     fn millis(&self, time: u64) -> u32
         ensures { result ≡ millis self.now time }
     {

@@ -9,7 +9,7 @@ use Rattle.pcap_io.specs.Capture.{Body}
 use Rattle.flow_export.specs.declared.span.Span5.{Span5}
 use Rattle.flow_shards.specs.Flows.{Lines, flows_from}
 use Rattle.flow_run.specs.Counting.{CountingView, IsCountOf, IsCountedWith, no_span, nothing_counted, with_body, with_record}
-use Rattle.flow_run.specs.FlowsOut.{greatest_of, item_of, items_from, span_of}
+use Rattle.flow_run.specs.FlowsOut.{greatest_of, item_of, items_from, least_of, span_of}
 use Rattle.flow_run.specs.declared.count.Counted.{Counted}
 use Rattle.flow_run.proofs.Bursts.{lines_more}
 
@@ -23,7 +23,7 @@ lines_are c (r ∷ rs) =
     lines_are (with_record c r) rs ∙ sym (lines_more c.unit c.lines (item_of (c.records + 1) r ∷ []) (items_from (c.records + 1 + 1) rs))
 
 spans : (unit : TimeUnit) (n : ℕ) (lines : Lines) (span : Span5) (rs : List PcapRecord) →
-    (fold with_record (record { unit = unit; records = n; lines = lines; span = Some span }) rs).span ≡ Some (record { origin = span.origin; greatest = greatest_of unit span.greatest rs })
+    (fold with_record (record { unit = unit; records = n; lines = lines; span = Some span }) rs).span ≡ Some (record { origin = least_of unit span.origin rs; greatest = greatest_of unit span.greatest rs })
 spans unit n lines span [] = refl
 spans unit n lines span (r ∷ rs) = spans unit (n + 1) (flows_from unit lines (item_of (n + 1) r ∷ [])) _ rs
 

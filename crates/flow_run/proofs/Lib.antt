@@ -1,3 +1,4 @@
 pub mod Bursts
 pub mod Folding
+pub mod Rows
 pub mod Turns

@@ -1,5 +1,5 @@
 -- For proofs: what is counted so far, record by record, and the final result.
-use Rattle.std.specs.Prelude.{◌≡◌, ◌<◌, ℕ, ◌+◌, ◌^◌, max, [], ◌∷◌, length, fold, Option, Some, None, IfOk, IfSome, IsErrOf, Result, Err, unwrap_or}
+use Rattle.std.specs.Prelude.{◌≡◌, ◌<◌, ℕ, ◌+◌, ◌^◌, min, max, [], ◌∷◌, length, fold, Option, Some, None, IfOk, IfSome, IsErrOf, Result, Err, unwrap_or}
 use Rattle.std.specs.Map.{values_of}
 use Rattle.capture_bytes.specs.Packets.{time_of}
 use Rattle.capture_bytes.specs.declared.packet.PcapRecord.{PcapRecord}
@@ -27,10 +27,10 @@ pub record CountingView : Type 0 where
 abbrev pub nothing_counted : TimeUnit → CountingView
 nothing_counted unit = record { unit = unit; records = 0; lines = []; span = None }
 
--- a span, with a time after the others
+-- a span, with one more time
 abbrev pub with_time : Option Span5 → ℕ → Span5
 with_time None time = record { origin = time; greatest = time }
-with_time (Some span) time = record { origin = span.origin; greatest = max span.greatest time }
+with_time (Some span) time = record { origin = min span.origin time; greatest = max span.greatest time }
 
 -- with one more record
 abbrev pub with_record : CountingView → PcapRecord → CountingView

@@ -1,5 +1,5 @@
 -- Believed: the flows of a capture's records, and what is exported for them.
-use Rattle.std.specs.Prelude.{ℕ, ◌+◌, max, List, [], ◌∷◌, None, fold}
+use Rattle.std.specs.Prelude.{ℕ, ◌+◌, min, max, List, [], ◌∷◌, None, fold}
 use Rattle.capture_bytes.specs.Packets.{time_of}
 use Rattle.capture_bytes.specs.declared.packet.PcapRecord.{PcapRecord}
 use Rattle.capture_bytes.specs.declared.packet.Unit.{Unit as TimeUnit}
@@ -22,14 +22,18 @@ items_from n (r ∷ rs) = item_of n r ∷ items_from (n + 1) rs
 abbrev pub flow_lines : TimeUnit → List PcapRecord → List FlowLine
 flow_lines unit records = flows unit (items_from 1 records)
 
+-- the least time of these records and of one before
+abbrev pub least_of : TimeUnit → ℕ → List PcapRecord → ℕ
+least_of unit before records = fold (λ least r. min least (time_of unit r)) before records
+
 -- the greatest time of these records and of one before
 abbrev pub greatest_of : TimeUnit → ℕ → List PcapRecord → ℕ
 greatest_of unit before records = fold (λ most r. max most (time_of unit r)) before records
 
--- from the time of the first record to the greatest
+-- from the least time of the records to the greatest
 abbrev pub span_of : TimeUnit → List PcapRecord → Span5
 span_of unit [] = record { origin = 0; greatest = 0 }
-span_of unit (r ∷ rs) = record { origin = time_of unit r; greatest = greatest_of unit (time_of unit r) rs }
+span_of unit (r ∷ rs) = record { origin = least_of unit (time_of unit r) rs; greatest = greatest_of unit (time_of unit r) rs }
 
 -- what is exported for a capture's flows
 abbrev pub flows_out : TimeUnit → List PcapRecord → List ℕ

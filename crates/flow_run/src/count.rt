@@ -24,7 +24,7 @@ pub struct Counted {
     pub records: u32,
     /// The lines of their flows, in the order of first sight.
     pub lines: Items<FlowLine>,
-    /// From the time of its first record to the greatest time; 0 to 0 if there is no record.
+    /// From the least time of its records to the greatest; 0 to 0 if there is no record.
     pub span: Span5,
     /// What ended it.
     pub fault: Option<CaptureFault>,

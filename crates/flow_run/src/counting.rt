@@ -148,7 +148,7 @@ fn time_of(packet: &PcapRecord, unit: Unit) -> u64
     packet.time(unit)
 }
 
-/// A span with one more time after the others.
+/// A span with one more time.
 fn with_time(span: Option<Span5>, time: u64) -> Span5
     requires before { IfSome span FitsSpan }
     requires below { time < 2 ^ 63 }
@@ -161,7 +161,7 @@ fn with_time(span: Option<Span5>, time: u64) -> Span5
             greatest: time,
         },
         Some(span) => Span5 {
-            origin: span.origin,
+            origin: span.origin.min(time),
             greatest: span.greatest.max(time),
         },
     }

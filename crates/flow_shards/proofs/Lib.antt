@@ -11,3 +11,4 @@ pub mod Rising
 pub mod Rows
 pub mod SameKeys
 pub mod Seeing
+pub mod Timely

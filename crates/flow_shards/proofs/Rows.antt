@@ -36,6 +36,12 @@ counts : flows Micro (item 1 0 (udp_from 1) ∷ item 2 1 (udp_from 9) ∷ item 3
 unfolding tags_len is_ipv4 is_ipv6 has_transport ipv4_bits
 counts = refl
 
+-- the times of a flow are the least and the greatest of its packets, in whatever order these come
+spans : flows Micro (item 1 5 (udp_from 1) ∷ item 2 7 (udp_from 1) ∷ item 3 3 (udp_from 1) ∷ item 4 6 (udp_from 1) ∷ []) ≡
+    record { key = key 17 0x0a000001; packets = 4; bytes = 112; first = 1; begun = 3000000000; last = 7000000000; flags = 0 } ∷ []
+unfolding tags_len is_ipv4 is_ipv6 has_transport ipv4_bits
+spans = refl
+
 -- 1 + 2 + 1000 + 53 + 17 is 1073
 places : shard_of 1 (key 17 0x0a000001) ∷ shard_of 2 (key 17 0x0a000001) ∷ shard_of 16 (key 17 0x0a000001) ∷ shard_of 16 (key 17 0x0a000009) ∷ [] ≡ 0 ∷ 1 ∷ 1 ∷ 9 ∷ []
 places = refl

@@ -1,5 +1,5 @@
 -- Believed: what is counted for the flows of a capture, packet by packet.
-use Rattle.std.specs.Prelude.{ℕ, List, [], Bool, ◌||◌, true, false, Option, Some, None, unwrap_or, fold, filter_map}
+use Rattle.std.specs.Prelude.{ℕ, List, [], Bool, ◌||◌, true, false, Option, Some, None, unwrap_or, min, max, fold, filter_map}
 use Rattle.std.specs.Int.RustNames.{bit_or}
 use Rattle.std.specs.Map.{values_of}
 use Rattle.std.specs.Net.Addr.{ipv4_bits, ipv6_bits}
@@ -64,9 +64,9 @@ first_line s = record { key = key_of s.flow; packets = 0; bytes = 0; first = s.n
 abbrev pub counts_with : FlowLine → Sight → FlowCounts
 counts_with line s = with_packet (record { packets = line.packets; bytes = line.bytes }) s.bytes
 
--- a line with one more packet
+-- a line with one more packet: its times are the least and the greatest of its packets
 abbrev pub with_sight : FlowLine → Sight → FlowLine
-with_sight line s = record line { packets = (counts_with line s).packets; bytes = (counts_with line s).bytes; last = s.time; flags = bit_or line.flags s.flags }
+with_sight line s = record line { packets = (counts_with line s).packets; bytes = (counts_with line s).bytes; begun = min line.begun s.time; last = max line.last s.time; flags = bit_or line.flags s.flags }
 
 -- lines, each with its flow, in the order of first sight
 abbrev pub Lines : Type 0

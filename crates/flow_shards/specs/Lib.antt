@@ -1,4 +1,5 @@
 pub mod Flows
+pub mod InOrderOfTime
 pub mod Monitoring
 pub mod Sharding
 pub mod Working

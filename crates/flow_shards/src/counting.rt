@@ -90,7 +90,8 @@ fn with_sight(line: FlowLine, sight: &Sight) -> FlowLine
     FlowLine {
         packets: counts.packets,
         bytes: counts.bytes,
-        last: sight.time,
+        begun: line.begun.min(sight.time),
+        last: line.last.max(sight.time),
         flags: line.flags | sight.flags,
         ..line
     }

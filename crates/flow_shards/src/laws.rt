@@ -1,5 +1,5 @@
 //! Properties of the counts of flows, stated without the definitions.
-ghost use Rattle.std.specs.Prelude.{◌≡◌, ◌≤◌, ◌<◌, ◌++◌, ℕ, List, [], true, map, filter, filter_map};
+ghost use Rattle.std.specs.Prelude.{◌≡◌, ◌≤◌, ◌<◌, ◌++◌, ℕ, List, [], true, map, filter, filter_map, fold};
 ghost use Rattle.capture_bytes.specs.declared.packet.Unit.{Unit as TimeUnit};
 ghost use Rattle.classifier.specs.declared.burst.Item.{Item};
 ghost use Rattle.flow_line.specs.declared.key.FlowKey.{FlowKey};
@@ -7,6 +7,7 @@ ghost use Rattle.nf_observe.specs.declared.flow.FiveTuple.{FiveTuple};
 ghost use Rattle.nf_observe.specs.SameFlow.{is_same_flow};
 ghost use Rattle.nf_observe.specs.Counting.{flows_with};
 ghost use Rattle.flow_shards.specs.Flows.{counted_all, flows_from, key_of, sight_of};
+ghost use Rattle.flow_shards.specs.InOrderOfTime.{AreInOrderOfTime, counted_to_last};
 ghost use Rattle.flow_shards.specs.Sharding.{in_shard, is_own, shard_of};
 ghost use Rattle.flow_shards.specs.Monitoring.{counts_in, shown};
 ghost use Rattle.flow_shards.specs.declared.sight.Sight.{Sight};
@@ -24,6 +25,13 @@ pub fn flows_have_one_shard()
 #[tactic(auto, using(crate::proofs::Monitored::monitored))]
 pub fn lines_are_a_monitors()
     ensures { (unit : TimeUnit) (items : List Item) → map counts_in (flows_from unit [] items) ≡ flows_with [] (map shown (filter_map (sight_of unit) items)) }
+{}
+
+/// If no packet is earlier than one before it, the least time of a flow is that of its first packet, and the greatest
+/// that of its last.
+#[tactic(auto, using(crate::proofs::Timely::last_packets_end))]
+pub fn first_and_last_packets_bound_flows()
+    ensures { (sights : List Sight) → AreInOrderOfTime 0 sights → counted_all [] sights ≡ fold counted_to_last [] sights }
 {}
 
 /// The counts don't depend on how packets are cut into bursts.

@@ -8,7 +8,8 @@
 //!
 //! Stated without these definitions: [`flows_have_one_shard`] says that a flow is in exactly one shard, and that a
 //! shard's lines are the counts of the packets of its own flows alone; [`lines_are_a_monitors`] that keys, packets and
-//! bytes are those of one monitor.
+//! bytes are those of one monitor; [`first_and_last_packets_bound_flows`] that of packets in order of time the first and
+//! the last of a flow bound its times.
 //!
 //! Left out: when workers run side by side. For a burst of many packets a worker is a thread if one can be started, and
 //! otherwise a turn of the caller.
@@ -23,6 +24,8 @@ mod sight;
 
 pub use flow_line::{FlowKey, FlowLine};
 pub use key::{key_of, shard_of};
-pub use laws::{bursts_go_on, flows_have_one_shard, lines_are_a_monitors};
+pub use laws::{
+    bursts_go_on, first_and_last_packets_bound_flows, flows_have_one_shard, lines_are_a_monitors,
+};
 pub use shards::Shards;
 pub use sight::Sight;
