@@ -45,7 +45,8 @@ class Line:
 
     def add(self, time, length, flags):
         self.packets, self.bytes = min(self.packets + 1, MOST_64), min(self.bytes + length, MOST_64)
-        self.last, self.flags = time, self.flags | flags
+        self.begun, self.last = min(self.begun, time), max(self.last, time)
+        self.flags |= flags
 
 
 def key_of(packet):
@@ -103,7 +104,7 @@ def export(records, lines):
     narrow = [(key, line) for key, line in lines.items() if not key.is_wide]
     if not narrow:
         return []
-    origin = records[0].time
+    origin = min(record.time for record in records)
     up = milliseconds(max(record.time for record in records), origin)
     now = origin + up * 1_000_000
     seconds, nanoseconds = min(now // 10**9, MOST_32), now % 10**9
