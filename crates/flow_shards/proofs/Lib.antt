@@ -12,3 +12,4 @@ pub mod Rows
 pub mod SameKeys
 pub mod Seeing
 pub mod Timely
+pub mod TwoColumns

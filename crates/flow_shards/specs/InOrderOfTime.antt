@@ -1,5 +1,5 @@
 -- For proofs: packets in order of time, and the counts of their flows if the last packet always ends its flow.
-use Rattle.std.specs.Prelude.{ℕ, ◌≤◌, ⊤, List, [], ◌∷◌, fold, unwrap_or}
+use Rattle.std.specs.Prelude.{ℕ, ◌≤◌, ⊤, List, [], ◌∷◌, unwrap_or}
 use Rattle.first_sight.specs.FirstSight.{belonging, noted}
 use Rattle.nf_observe.specs.SameFlow.{is_same_flow}
 use Rattle.flow_line.specs.declared.line.FlowLine.{FlowLine}

@@ -3,15 +3,15 @@ ghost use Rattle.std.specs.Prelude.{◌≡◌, ◌≤◌, IfOk, OnOk, filter};
 ghost use Rattle.flow_shards.specs.Flows.{with_sight, counted, counted_all};
 ghost use Rattle.flow_shards.specs.Sharding.{is_own, counted_if_own};
 
+use crate::columns::ColumnTable;
 use crate::key::{key_of, shard_of};
 use crate::sight::Sight;
-use first_sight::FirstSeen;
 use flow_line::FlowLine;
 use nf_observe::{FiveTuple, FlowCounts};
 use std::alloc::AllocError;
 
 /// The lines of one shard, each with its flow, in the order of first sight.
-pub(crate) type Table = FirstSeen<FiveTuple, FlowLine>;
+pub(crate) type Table = ColumnTable<FiveTuple, FlowLine>;
 
 /// Counts the packets that are of this worker's shard, in their order.
 pub(crate) fn count_own(
@@ -55,7 +55,7 @@ fn count(table: &mut Table, sight: &Sight) -> Result<(), AllocError>
     match table.find(&sight.flow) {
         Some((place, line)) => table.renew(&sight.flow, place, with_sight(line, sight)),
         None => {
-            table.note(sight.flow, with_sight(first_line(sight), sight))?;
+            table.push(sight.flow, with_sight(first_line(sight), sight))?;
         }
     }
     Ok(())

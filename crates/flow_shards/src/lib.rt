@@ -16,6 +16,7 @@
 #![tactic(auto)]
 
 mod beside;
+mod columns;
 mod counting;
 mod key;
 mod laws;

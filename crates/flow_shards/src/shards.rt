@@ -5,7 +5,6 @@ use crate::counting::Table;
 use crate::sight::Sight;
 use capture_bytes::Unit;
 use classifier::Burst;
-use first_sight::FirstSeen;
 use flow_line::FlowLine;
 use std::alloc::{AllocError, Global};
 use std::marker::Model;
@@ -47,7 +46,7 @@ impl Shards {
     {
         let mut tables = Vec::new(alloc);
         'workers: for _ in 0..workers {
-            tables.push(FirstSeen::new(alloc))?;
+            tables.push(Table::new(alloc))?;
         }
         Ok(Shards { tables, last: 0 })
     }
@@ -90,13 +89,14 @@ impl Shards {
         ensures fits { IfOk result (λ lines. All HasFittingKey lines.items) }
         ensures few { IfOk result (λ lines. length lines.items ≤ self.last) }
     {
-        let mut lines = all_lines(alloc, &self.tables)?;
+        let Shards { tables, last: _ } = self;
+        let mut lines = all_lines(alloc, tables)?;
         lines.sort_by_key(|line| line.first)?;
         Ok(lines)
     }
 }
 
-ghost use Rattle.std.specs.Prelude.{◌≡◌, All, IfOk, filter_map};
+ghost use Rattle.std.specs.Prelude.{◌≡◌, ◌++◌, All, IfOk, filter_map};
 ghost use Rattle.std.specs.Map.{values_of};
 ghost use Rattle.flow_shards.specs.Flows.{sight_of};
 ghost use Rattle.flow_shards.specs.Sharding.{HasFittingFlow, flat, last_of};
@@ -123,13 +123,26 @@ fn last_number(last: u32, burst: &Burst) -> u32
     items.iter().fold(last, |_, item| item.number)
 }
 
-/// The lines of all shards, one shard after another.
-fn all_lines(alloc: Global, tables: &[Table]) -> Result<Vec<FlowLine>, AllocError>
-    ensures { IfOk result (λ lines. lines.items ≡ values_of (flat tables.now)) }
+/// The lines of all shards, one shard after another. What finds the lines of a shard is freed before they are copied.
+fn all_lines(alloc: Global, tables: Vec<Table>) -> Result<Vec<FlowLine>, AllocError>
+    ensures { IfOk result (λ lines. lines.items ≡ values_of (flat tables.items)) }
 {
     let mut lines = Vec::new(alloc);
     'tables: for table in tables {
-        lines.extend_from_slice(table.values())?;
+        lines = joined(lines, table.into_values())?;
     }
     Ok(lines)
+}
+
+/// Lines after others. If there are no others, none is copied.
+fn joined(lines: Vec<FlowLine>, later: Vec<FlowLine>) -> Result<Vec<FlowLine>, AllocError>
+    ensures { IfOk result (λ all. all.items ≡ lines.items ++ later.items) }
+{
+    if lines.is_empty() {
+        return Ok(later);
+    }
+    let mut all = lines;
+    let mut later = later;
+    all.append(&mut later)?;
+    Ok(all)
 }

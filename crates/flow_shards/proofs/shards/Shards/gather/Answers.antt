@@ -16,7 +16,7 @@ returns-clause-lines c =
     let tables = c.self.inside.tables.items in
     let sorted = c.sort_by_key.new.self.items in
     let moved : IsPermutation (values_of (flat tables)) sorted =
-    subst (λ l. IsPermutation l sorted) (c.in_ok-lines.ensures ∙ ap (λ t. values_of (flat t)) c.deref.ensures.value) c.sort_by_key.ensures.permutation in
+    subst (λ l. IsPermutation l sorted) c.in_ok-lines.ensures c.sort_by_key.ensures.permutation in
     let up : IsNonDecreasingBy (λ (line : FlowLine). line.first) sorted = IsNonDecreasingBy-from_sort_by_key (λ (line : FlowLine). line.first) sorted c.in_ok-sort_by_key.ensures.sorted (λ a r f called. search rules) in
     gathered (flat tables) sorted c.self.invariant.ordered.rising moved up
     ∙ ap (λ (v : ShardsView). values_of v.lines) c.self.view_is
