@@ -1,6 +1,6 @@
 -- A key that was seen keeps its place and gets the value, and a new one goes last.
-use Rattle.std.proofs.Common.{◌≡◌, ◌<◌, ◌∙◌, ℕ, suc, ◌+◌, List, [], ◌∷◌, ◌++◌, map, length, position, Bool, true, false, cond, not, ◌||◌, Option, Some, is_some, refl, sym, ap, subst, arith, true≢false}
-use Rattle.std.specs.Prelude.{if◌then◌else◌}
+use Rattle.std.proofs.Common.{◌≡◌, ◌<◌, ◌∙◌, ℕ, suc, ◌+◌, List, [], ◌∷◌, ◌++◌, map, length, position, Bool, true, false, cond, not, ◌||◌, Option, Some, is_some, refl, sym, ap, subst, arith, true≢false, length-append}
+use Rattle.std.specs.Prelude.{if◌then◌else◌, None, Result, IsOk}
 use Rattle.std.specs.Cmp.{IsEquivalence}
 use Rattle.std.specs.List.{IsDistinct, AllByRecursion}
 use Rattle.std.specs.Map.{keys_of}
@@ -83,6 +83,14 @@ module _ {K V : Type 0} (eq : K → K → Bool) where
 
   pub order : (seen : List (K × V)) (key : K) (value : V) → keys_of (noted eq seen key value) ≡ (if is_some (belonging eq seen key) then keys_of seen else keys_of seen ++ key ∷ [])
   order seen key value = keys_noted seen key value ∙ ap (λ b. if b then keys_of seen else keys_of seen ++ key ∷ []) (sym (found_is_seen seen key))
+
+  -- a key to which nothing belongs makes the list of keys longer
+  pub only_new : {T E : Type 0} (seen : List (K × V)) (key : K) (result : Result T E) → belonging eq seen key ≡ None → length (seen_with eq (keys_of seen) key) ≡ length (keys_of seen) → IsOk result
+  only_new seen key result absent as_many = absurd (longer (is_seen eq (keys_of seen) key) (sym (found_is_seen seen key) ∙ ap is_some absent) as_many)
+    where
+      longer : (b : Bool) → b ≡ false → length (if b then keys_of seen else keys_of seen ++ key ∷ []) ≡ length (keys_of seen) → ⊥
+      longer true is as_many = true≢false is
+      longer false is as_many = let more = length-append (keys_of seen) (key ∷ []) in absurd (omega (arith, more, as_many))
 
   module _ (laws : IsEquivalence eq) where
     -- if no key is this one, nothing is returned

@@ -1,14 +1,15 @@
 -- Lines that are reported one after another, after what was there.
 use Rattle.std.proofs.Common.{◌≡◌, ◌+◌, ◌∙◌, ℕ, zero, suc, List, [], ◌∷◌, ◌++◌, length, map, take, refl, sym, ap, append_assoc, arith}
-use Rattle.std.specs.Prelude.{slice_get, slice_index_or, Some, Result, Ok, Err, OnOk, is_ok, if◌then◌else◌}
+use Rattle.std.specs.Prelude.{Bool, slice_get, slice_index_or, Some, Result, Ok, Err, OnOk, is_ok, if◌then◌else◌}
 use Rattle.std.specs.List.{flat_map, enumerate_from}
 use Rattle.std.specs.Map.{keys_of}
 use Rattle.std.proofs.lemmas.List.{append-nil, length-map}
 use Rattle.std.proofs.lemmas.List.Folds.{flat_map-map}
 use Rattle.std.proofs.lemmas.List.FromFn.{length-enumerate_from}
 use Rattle.std.proofs.Math.Seq.{take-append_seam}
-use Rattle.first_sight.specs.FirstSight.{lines_by}
+use Rattle.first_sight.specs.FirstSight.{lines_by, noted, seen_with}
 use Rattle.first_sight.specs.Lines.{rows_by}
+use Rattle.first_sight.proofs.Noting.{keys_noted}
 
 -- the lines of these, of which the first has this place
 abbrev pub lines_from : {X : Type 0} → (ℕ → X → List ℕ) → ℕ → List X → List ℕ
@@ -96,3 +97,11 @@ module _ {X : Type 0} (line : ℕ → X → List ℕ) where
 pub row_pushed : {T E : Type 0} (r : Result T E) (before after pushed row : List ℕ) → after ≡ (if is_ok r then before ++ pushed else before) → pushed ≡ row → OnOk r (after ≡ before ++ row)
 row_pushed (Ok x) before after pushed row is same = is ∙ ap (λ l. before ++ l) same
 row_pushed (Err e) before after pushed row is same = tt
+
+-- a line for each key, also after one was noted
+module _ {K V : Type 0} (line : ℕ → K × V → List ℕ) where
+  pub entries_counted : (seen : List (K × V)) → length (rows_by line seen) ≡ length (keys_of seen)
+  entries_counted seen = rows_counted line seen ∙ sym (length-map seen (λ e. e.0))
+
+  pub noted_counted : (eq : K → K → Bool) (seen : List (K × V)) (key : K) (value : V) → length (rows_by line (noted eq seen key value)) ≡ length (seen_with eq (keys_of seen) key)
+  noted_counted eq seen key value = entries_counted (noted eq seen key value) ∙ ap length (keys_noted eq seen key value)

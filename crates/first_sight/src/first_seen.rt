@@ -61,7 +61,7 @@ impl<K: Eq + Hash, V> FirstSeen<K, V> {
 }
 
 impl<K: Eq + Hash + Drop, V: Copy + Drop> FirstSeen<K, V> {
-    ghost use Rattle.std.specs.Prelude.{◌≡◌, Some, None, IfOk, OnOk, OnErr, position};
+    ghost use Rattle.std.specs.Prelude.{◌≡◌, Some, None, IsOk, IfOk, OnOk, OnErr, length, position};
     ghost use Rattle.std.specs.Map.{keys_of};
     ghost use Rattle.std.specs.Option.{option_map};
     ghost use Rattle.first_sight.specs.FirstSight.{belonging, noted, place_of, seen_with};
@@ -87,6 +87,7 @@ impl<K: Eq + Hash + Drop, V: Copy + Drop> FirstSeen<K, V> {
 
     /// Gives this value to a key, and returns the key's place, counted from 0. A key that was seen keeps its place, and
     /// a new one goes last; if there is no memory for it, nothing changes.
+    #[tactic(auto, using(crate::proofs::Noting::only_new))]
     pub fn note(&mut self, key: K, value: V) -> Result<usize, AllocError>
         ensures noted { OnOk result (self.new ≡ noted K.eq self.old key value) }
         ensures keys { OnOk result (keys_of self.new ≡ seen_with K.eq (keys_of self.old) key) }
@@ -94,6 +95,7 @@ impl<K: Eq + Hash + Drop, V: Copy + Drop> FirstSeen<K, V> {
         // Only a new key needs memory.
         ensures stays { OnErr result (self.new ≡ self.old) }
         ensures absent { OnErr result (belonging K.eq self.old key ≡ None) }
+        ensures known { length (seen_with K.eq (keys_of self.old) key) ≡ length (keys_of self.old) → IsOk result }
     {
         let (place, _) = self.entries.insert_full(key, value)?;
         Ok(place)

@@ -25,11 +25,11 @@ pub struct Limiter {
 }
 
 impl Limiter {
-    ghost use Rattle.std.specs.Prelude.{◌≡◌, ◌<◌, ◌++◌, [], length, slice_index_or, position, OnOk, OnErr, IfOk};
+    ghost use Rattle.std.specs.Prelude.{◌≡◌, ◌<◌, ◌++◌, [], length, slice_index_or, position, IsOk, OnOk, OnErr, IfOk};
     ghost use Rattle.std.specs.List.{flat_map};
     ghost use Rattle.std.specs.Map.{keys_of};
     ghost use Rattle.packet_version.specs.Views.{viewed, wrote_all};
-    ghost use Rattle.first_sight.specs.FirstSight.{noted};
+    ghost use Rattle.first_sight.specs.FirstSight.{noted, seen_with};
     ghost use Rattle.first_sight.specs.SameAddress.{is_same_address};
     ghost use Rattle.nf_observe.specs.Limiters.{limiter_behaviour, limiter_text, bucket_of, limited};
     ghost use Rattle.nf_observe.specs.StateRows.{limiter_rows};
@@ -44,6 +44,8 @@ impl Limiter {
         // If memory runs out, nothing has changed.
         ensures function_stays { OnErr result (self.new ≡ self.old) }
         ensures view_stays { OnErr result (view.new ≡ view.old) }
+        // Only one more line of its state, that of a new source, needs memory.
+        ensures known { length (limiter_rows (viewed limiter_behaviour self.old view.old).after) ≡ length (limiter_rows self.old) → IsOk result }
     {
         // Nothing is written, so the view is as it was.
         unwritten_stays(view);
@@ -83,6 +85,7 @@ impl Limiter {
         ensures after { OnOk result (self.new ≡ (limited self.old source bytes time).after) }
         ensures verdict { IfOk result (λ verdict. verdict ≡ (limited self.old source bytes time).verdict) }
         ensures stays { OnErr result (self.new ≡ self.old) }
+        ensures known { length (limiter_rows (limited self.old source bytes time).after) ≡ length (limiter_rows self.old) → IsOk result }
     {
         let (place, bucket) = self.place_and_bucket(source, time);
         self.note(place, source, bucket.paid(bytes))?;
@@ -110,6 +113,7 @@ impl Limiter {
         requires place { place ≡ position (is_same_address source) (keys_of self.old.sources) }
         ensures noted { OnOk result (self.new ≡ record self.old { sources = noted is_same_address self.old.sources source bucket }) }
         ensures stays { OnErr result (self.new ≡ self.old) }
+        ensures known { length (seen_with is_same_address (keys_of self.old.sources) source) ≡ length (keys_of self.old.sources) → IsOk result }
     {
         match place {
             Some(place) => self.sources.renew(&source, place, bucket),

@@ -19,17 +19,23 @@ pub struct Monitor {
 }
 
 impl Monitor {
-    ghost use Rattle.std.specs.Prelude.{◌≡◌, ◌<◌, ◌++◌, [], length, slice_index_or, OnOk, OnErr};
+    ghost use Rattle.std.specs.Prelude.{◌≡◌, ◌<◌, ◌++◌, [], length, slice_index_or, IsOk, OnOk, OnErr};
     ghost use Rattle.std.specs.List.{flat_map};
+    ghost use Rattle.std.specs.Map.{keys_of};
+    ghost use Rattle.first_sight.specs.FirstSight.{seen_with};
     ghost use Rattle.nf_observe.specs.Flows.{counted};
     ghost use Rattle.nf_observe.specs.Monitors.{monitor_text};
     ghost use Rattle.nf_observe.specs.MonitorNotes.{settled_note};
+    ghost use Rattle.nf_observe.specs.SameFlow.{is_same_flow};
     ghost use Rattle.nf_observe.specs.StateRows.{monitor_rows};
 
     /// Counts a packet with this note. If there is no memory for a new flow, nothing changes.
+    #[tactic(auto, using(crate::proofs::NoNewKey::no_new_flow))]
     pub fn settle(&mut self, note: &FlowNote) -> Result<(), AllocError>
         ensures settled { OnOk result (self.new ≡ settled_note self.old note.now) }
         ensures stays { OnErr result (self.new ≡ self.old) }
+        // Only one more line of its state, that of a new flow, needs memory.
+        ensures known { length (monitor_rows (settled_note self.old note.now)) ≡ length (monitor_rows self.old) → IsOk result }
     {
         self.count(note.flow, note.bytes)
     }
@@ -63,6 +69,7 @@ impl Monitor {
     fn count(&mut self, flow: FiveTuple, bytes: u16) -> Result<(), AllocError>
         ensures counted { OnOk result (self.new.flows ≡ counted self.old.flows flow bytes) }
         ensures stays { OnErr result (self.new ≡ self.old) }
+        ensures known { length (seen_with is_same_flow (keys_of self.old.flows) flow) ≡ length (keys_of self.old.flows) → IsOk result }
     {
         match self.flows.find(&flow) {
             Some((place, counts)) => self.flows.renew(&flow, place, counts.with_packet(bytes)),

@@ -41,7 +41,7 @@ impl Model for Balancer {
 }
 
 impl Balancer {
-    ghost use Rattle.std.specs.Prelude.{◌≡◌, ◌<◌, ◌++◌, [], length, slice_index_or, IfOk, OnOk, OnErr};
+    ghost use Rattle.std.specs.Prelude.{◌≡◌, ◌<◌, ◌++◌, [], length, slice_index_or, IsOk, IfOk, OnOk, OnErr};
     ghost use Rattle.std.specs.List.{flat_map};
     ghost use Rattle.packet_version.specs.Views.{viewed, wrote_all};
     ghost use Rattle.nf_translate.specs.Clients.{place_of, with_client};
@@ -70,6 +70,8 @@ impl Balancer {
         // If memory runs out, nothing has changed.
         ensures function_stays { OnErr result (self.new ≡ self.old) }
         ensures view_stays { OnErr result (view.new ≡ view.old) }
+        // Only one more line of its state, that of a new flow, needs memory.
+        ensures known { length (flow_rows (viewed balancer_behaviour self.old view.old).after) ≡ length (flow_rows self.old) → IsOk result }
     {
         let Some(flow) = flow_in(&self.settings, view) else {
             unwritten_stays(view);
@@ -85,6 +87,7 @@ impl Balancer {
         ensures backend { IfOk result (λ backend. backend ≡ backend_at self.old.settings (place_of self.old.flows flow)) }
         ensures after { OnOk result (self.new ≡ record self.old { flows = with_client self.old.flows flow }) }
         ensures stays { OnErr result (self.new ≡ self.old) }
+        ensures known { length (flow_rows (record self.old { flows = with_client self.old.flows flow })) ≡ length (flow_rows self.old) → IsOk result }
     {
         let place = self.flows.note(flow, ())?;
         Ok(backend_at(&self.settings, place))

@@ -41,7 +41,7 @@ impl Model for Nat {
 }
 
 impl Nat {
-    ghost use Rattle.std.specs.Prelude.{◌≡◌, ◌<◌, ◌++◌, [], length, slice_index_or, IfOk, OnOk, OnErr};
+    ghost use Rattle.std.specs.Prelude.{◌≡◌, ◌<◌, ◌++◌, [], length, slice_index_or, IsOk, IfOk, OnOk, OnErr};
     ghost use Rattle.std.specs.List.{flat_map};
     ghost use Rattle.packet_version.specs.Views.{viewed, wrote_all};
     ghost use Rattle.nf_translate.specs.Endpoints.{place_of, with_endpoint};
@@ -71,6 +71,8 @@ impl Nat {
         // If memory runs out, nothing has changed.
         ensures function_stays { OnErr result (self.new ≡ self.old) }
         ensures view_stays { OnErr result (view.new ≡ view.old) }
+        // Only one more line of its state, that of a new mapping, needs memory.
+        ensures known { length (mapping_rows (viewed nat_behaviour self.old view.old).after) ≡ length (mapping_rows self.old) → IsOk result }
     {
         let Some((source, destination)) = ends_in(view) else {
             unwritten_stays(view);
@@ -96,6 +98,7 @@ impl Nat {
         ensures view { OnOk result (view.new ≡ wrote_all (leaving self.old source (port_at self.old.settings (place_of self.old.mappings source))).written view.old) }
         ensures function_stays { OnErr result (self.new ≡ self.old) }
         ensures view_stays { OnErr result (view.new ≡ view.old) }
+        ensures known { length (mapping_rows (leaving self.old source (port_at self.old.settings (place_of self.old.mappings source))).after) ≡ length (mapping_rows self.old) → IsOk result }
     {
         let place = self.mappings.place(&source);
         let Some(port) = port_at(self.settings, place) else {
