@@ -45,8 +45,9 @@ pub trait Function: Sized {
         // If memory runs out, nothing has changed.
         ensures function_stays { OnErr result (self.new ≡ self.old) }
         ensures view_stays { OnErr result (view.new ≡ view.old) }
-        // Only a state needs memory.
-        ensures stateless { (behaviour.profile self.old).state ≡ false → IsOk result };
+        // Only a state needs memory, and only for one line more.
+        ensures stateless { (behaviour.profile self.old).state ≡ false → IsOk result }
+        ensures known { length (rows (viewed behaviour self.old view.old).after) ≡ length (rows self.old) → IsOk result };
 
     /// What a function that counts notes of one packet, which it sees through a view of its own profile. A function
     /// that doesn't count notes nothing. Allocates nothing.
@@ -59,8 +60,9 @@ pub trait Function: Sized {
         ensures settled { OnOk result (self.new ≡ notes.settle self.old note.now) }
         // If memory runs out, nothing has changed.
         ensures stays { OnErr result (self.new ≡ self.old) }
-        // Only counts need memory.
+        // Only counts need memory, and only for one line more.
         ensures uncounted { (behaviour.profile self.old).counts ≡ false → IsOk result }
+        ensures known { length (rows (notes.settle self.old note.now)) ≡ length (rows self.old) → IsOk result }
         ensures same { (behaviour.profile self.old).counts ≡ false → self.new ≡ self.old };
 
     /// Appends the lines that show its state. If memory runs out, it appends nothing. A function that neither keeps a

@@ -70,7 +70,7 @@ impl Function for NetFunction {
         }
     }
 
-    #[tactic(auto, unfolding(crate::specs::NetFunctions::profile_by, crate::specs::NetFunctions::step_by))]
+    #[tactic(auto, unfolding(crate::specs::NetFunctions::profile_by, crate::specs::NetFunctions::step_by, crate::specs::StateRows::rows_of))]
     fn step(&mut self, view: &mut View) -> Result<Verdict, AllocError> {
         match self {
             NetFunction::Firewall(firewall) => firewall.step(view),
@@ -98,7 +98,7 @@ impl Function for NetFunction {
         }
     }
 
-    #[tactic(auto, unfolding(crate::specs::NetFunctions::profile_by, crate::specs::NetNotes::settle_by))]
+    #[tactic(auto, unfolding(crate::specs::NetFunctions::profile_by, crate::specs::NetNotes::settle_by, crate::specs::StateRows::rows_of))]
     fn settle(&mut self, note: &FlowNote) -> Result<(), AllocError> {
         match self {
             NetFunction::Monitor(monitor) => monitor.settle(note),
