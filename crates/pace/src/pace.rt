@@ -1,5 +1,7 @@
 //! The time that either way took, and the choice.
 
+use crate::way::Way;
+
 /// The number of packets with which threads are tried.
 const ON_THREADS: u32 = 8_192;
 
@@ -9,7 +11,8 @@ const ALONE: u32 = 2_048;
 /// The number of packets that then run in the better way.
 const CHOSEN: u32 = 514_048;
 
-/// The greatest number of packets in the first burst of either way.
+/// The greatest number of packets in the first burst on threads, and the number of packets that are tried first on one
+/// thread.
 const FIRST: u32 = 1_024;
 
 /// Threads that take this many times as long as one thread are hopeless, and no more bursts try them.
@@ -34,9 +37,9 @@ pub enum Lead {
 pub enum Part {
     /// One burst runs on threads.
     FirstOnThreads,
-    /// One burst runs on one thread: the two times show whether threads are hopeless.
+    /// Bursts run on one thread, until its time is known.
     FirstAlone,
-    /// If they aren't, bursts run on threads, whatever is known.
+    /// If threads aren't hopeless, bursts run on threads, whatever is known.
     MoreOnThreads,
     /// Then bursts run on one thread.
     MoreAlone,
@@ -44,34 +47,37 @@ pub enum Part {
     Chosen,
 }
 
-/// The time of a packet in either way, in nanoseconds, as measured on bursts, and the state of the round.
+/// The time of a packet in either way, as measured on bursts, and the state of the round.
 #[derive(Clone, Copy, PartialEq, Eq, Debug)]
 pub struct Pace {
-    /// On threads, if that was tried.
-    pub threads: Option<u64>,
-    /// On one thread, if that was tried.
-    pub alone: Option<u64>,
+    /// On threads.
+    pub threads: Way,
+    /// On one thread.
+    pub alone: Way,
     /// The part of the round to which the next burst belongs.
     pub part: Part,
     /// The number of packets of this part so far.
     pub packets: u32,
+    /// The nanoseconds that these packets took.
+    pub nanos: u64,
 }
 
 ghost use Rattle.std.specs.Prelude.{◌≡◌, ◌<◌, ◌/◌, Some, None};
-ghost use Rattle.pace.specs.Pacing.{after, are_hopeless, are_light, better, is_light, is_over, kept, lead_of, most, next_part, pays};
+ghost use Rattle.pace.specs.Pacing.{after, after_on_threads, are_hopeless, are_light, better, have_failed, is_light, is_over, lead_of, left, most, next_part, pays, size, told_alone, told_threads};
 ghost use Rattle.pace.specs.declared.pace.Lead.{Lead};
 ghost use Rattle.pace.specs.declared.pace.Part.{Part};
 
 impl Pace {
     /// A pace with neither way tried.
     pub fn new() -> Pace
-        ensures { result ≡ record { threads = None; alone = None; part = Part.FirstOnThreads; packets = 0 } }
+        ensures { result ≡ record { threads = record { each = None; packets = 0; nanos = 0 }; alone = record { each = None; packets = 0; nanos = 0 }; part = Part.FirstOnThreads; packets = 0; nanos = 0 } }
     {
         Pace {
-            threads: None,
-            alone: None,
+            threads: Way::new(),
+            alone: Way::new(),
             part: Part::FirstOnThreads,
             packets: 0,
+            nanos: 0,
         }
     }
 
@@ -88,22 +94,20 @@ impl Pace {
 
     /// The greatest number of packets to run in that way before `lead` is called again.
     pub fn most(&self) -> u32
-        ensures most { result ≡ most self.now.part }
+        ensures most { result ≡ most self.now }
         ensures some { 0 < result }
     {
-        match self.part {
-            Part::FirstOnThreads | Part::FirstAlone => FIRST,
-            Part::MoreOnThreads => ON_THREADS,
-            Part::MoreAlone => ALONE,
-            Part::Chosen => CHOSEN,
+        match (self.part, self.threads.each) {
+            (Part::MoreOnThreads, None) => FIRST,
+            (part, _) => size(part),
         }
     }
 
     /// The better way, as far as it is known.
     fn better(&self) -> Lead
-        ensures { result ≡ better self.now.threads self.now.alone }
+        ensures { result ≡ better self.now.threads.each self.now.alone.each }
     {
-        match (self.threads, self.alone) {
+        match (self.threads.each, self.alone.each) {
             (Some(threads), Some(alone)) if !pays(threads, alone) => Lead::Alone,
             _ => Lead::Threads,
         }
@@ -112,34 +116,66 @@ impl Pace {
     /// Takes note of a burst of `packets` packets, at least one, which ran in this way and took `nanos` nanoseconds.
     pub fn tell(&mut self, lead: Lead, packets: u32, nanos: u64)
         requires some { 0 < packets }
-        ensures threads { lead ≡ Lead.Threads → self.new ≡ after packets (record self.old { threads = Some (kept self.old.threads (nanos / packets)) }) }
-        ensures alone { lead ≡ Lead.Alone → self.new ≡ after packets (record self.old { alone = Some (kept self.old.alone (nanos / packets)) }) }
+        ensures threads { lead ≡ Lead.Threads → self.new ≡ told_threads packets nanos self.old }
+        ensures alone { lead ≡ Lead.Alone → self.new ≡ told_alone packets nanos self.old }
     {
-        let each = nanos / u64::from(packets);
+        let part_packets = self.packets.saturating_add(packets);
+        let part_nanos = self.nanos.saturating_add(nanos);
         match lead {
-            Lead::Threads => self.threads = Some(kept(self.threads, each)),
-            Lead::Alone => self.alone = Some(kept(self.alone, each)),
-        }
-        self.packets = self.packets.saturating_add(packets);
-        if self.is_over() {
-            self.part = self.next_part();
-            self.packets = 0;
+            Lead::Threads => {
+                self.threads = self.threads.timed(packets, nanos);
+                self.go_on_from_threads(part_packets, part_nanos);
+            }
+            Lead::Alone => {
+                self.alone = self.alone.timed(packets, nanos);
+                self.go_on(part_packets, part_nanos);
+            }
         }
     }
 
-    /// Is this part of the round over?
-    fn is_over(&self) -> bool
-        ensures { result ≡ is_over self.now.part self.now.packets }
+    /// Goes on with a part that ran on threads: if they failed, one thread takes the rest of the round.
+    fn go_on_from_threads(&mut self, packets: u32, nanos: u64)
+        requires some { 0 < packets }
+        ensures { self.new ≡ after_on_threads packets nanos self.old }
     {
-        match self.part {
-            Part::FirstOnThreads | Part::FirstAlone => true,
-            _ => self.packets >= self.most(),
+        if self.have_threads_failed(packets, nanos) {
+            self.threads = Way::known(nanos / u64::from(packets));
+            self.part = Part::Chosen;
+            self.packets = 0;
+            self.nanos = 0;
+        } else {
+            self.go_on(packets, nanos);
+        }
+    }
+
+    /// Goes on with a part that has had `packets` packets, which took `nanos` nanoseconds.
+    fn go_on(&mut self, packets: u32, nanos: u64)
+        ensures { self.new ≡ after packets nanos self.old }
+    {
+        if is_over(self.part, packets) {
+            self.part = self.next_part();
+            self.packets = 0;
+            self.nanos = 0;
+        } else {
+            self.packets = packets;
+            self.nanos = nanos;
+        }
+    }
+
+    /// Did the packets of a part take more than twice the time of one thread? Fewer than 1,024 are measured against the
+    /// time of 1,024.
+    fn have_threads_failed(&self, packets: u32, nanos: u64) -> bool
+        ensures { result ≡ have_failed self.now.alone.each packets nanos }
+    {
+        match self.alone.each {
+            Some(alone) => nanos / (2 * u64::from(packets.max(FIRST))) > alone,
+            None => false,
         }
     }
 
     /// The part after this one.
     fn next_part(&self) -> Part
-        ensures { result ≡ next_part self.now.threads self.now.alone self.now.part }
+        ensures { result ≡ next_part self.now.threads.each self.now.alone.each self.now.part }
     {
         match self.part {
             Part::FirstOnThreads => Part::FirstAlone,
@@ -154,19 +190,43 @@ impl Pace {
 
     /// Are packets light, or did threads take so much longer, that threads need not be tried again?
     fn are_threads_hopeless(&self) -> bool
-        ensures { result ≡ are_hopeless self.now.threads self.now.alone }
+        ensures { result ≡ are_hopeless self.now.threads.each self.now.alone.each }
     {
-        match (self.threads, self.alone) {
+        match (self.threads.each, self.alone.each) {
             (Some(threads), Some(alone)) => is_light(alone) || threads / HOPELESS > alone,
-            _ => false,
+            (None, Some(alone)) => is_light(alone),
+            (_, None) => false,
         }
     }
 
     /// Are packets light, as far as that is known?
     fn are_packets_light(&self) -> bool
-        ensures { result ≡ are_light self.now.alone }
+        ensures { result ≡ are_light self.now.alone.each }
     {
-        self.alone.is_some_and(is_light)
+        self.alone.each.is_some_and(is_light)
+    }
+}
+
+/// The number of packets of a part.
+fn size(part: Part) -> u32
+    ensures size { result ≡ size part }
+    ensures some { 0 < result }
+{
+    match part {
+        Part::FirstOnThreads | Part::FirstAlone => FIRST,
+        Part::MoreOnThreads => ON_THREADS,
+        Part::MoreAlone => ALONE,
+        Part::Chosen => CHOSEN,
+    }
+}
+
+/// Is a part over after so many packets? The first has one burst.
+fn is_over(part: Part, packets: u32) -> bool
+    ensures { result ≡ is_over part packets }
+{
+    match part {
+        Part::FirstOnThreads => true,
+        _ => packets >= size(part),
     }
 }
 
@@ -182,14 +242,4 @@ fn pays(threads: u64, alone: u64) -> bool
     ensures { result ≡ pays threads alone }
 {
     !is_light(alone) && threads <= alone - alone / 10
-}
-
-/// The time of a packet to keep for a way, from the time kept `before` and that of this burst.
-fn kept(before: Option<u64>, each: u64) -> u64
-    ensures { result ≡ kept before each }
-{
-    match before {
-        None => each,
-        Some(before) => each.min(before.saturating_add(before / 16)),
-    }
 }
