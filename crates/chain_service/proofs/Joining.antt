@@ -11,8 +11,7 @@ use Rattle.nf_tunnel.specs.declared.decap.Decap.{Decap}
 use Rattle.nf_tunnel.specs.declared.encap.Encap.{Encap}
 use Rattle.segment_run.specs.Segments.{piece_of, pieces_of}
 use Rattle.segment_run.specs.declared.piece.Piece.TheVariants as running
-use Rattle.chain_service.specs.Cutting.{GoesOn, closed, with_all}
-use Rattle.chain_service.specs.Services.{with_first, with_made}
+use Rattle.chain_service.specs.Cutting.{GoesOn, closed, with_all, with_first, with_made}
 use Rattle.chain_service.specs.declared.cutting.Cutting.{Cutting}
 use Rattle.chain_service.specs.declared.named.NamedFunction.{NamedFunction}
 

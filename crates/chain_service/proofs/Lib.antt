@@ -1,5 +1,6 @@
 pub mod Chaining
 pub mod CutSoFar
+pub mod Joined
 pub mod Joining
 pub mod Opens
 pub mod Serving

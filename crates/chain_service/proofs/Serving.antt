@@ -17,8 +17,10 @@ use Rattle.nf_tunnel.specs.Tunnels.{encapsulated, decapsulated}
 use Rattle.piece_walk.specs.Pieces.{Piece, Graph, Whole, count_of}
 use Rattle.segment_run.specs.Segments.{functions_count}
 use Rattle.graph_compile.specs.declared.graph.Graph.{Graph as StagedGraph}
-use Rattle.chain_service.specs.Services.{compiled, cut, declared_at, in_graph, pieces_at, with_first, with_made}
+use Rattle.chain_service.specs.Cutting.{joined, with_first, with_made}
+use Rattle.chain_service.specs.Services.{compiled, declared_at, in_graph, pieces_among, pieces_at}
 use Rattle.chain_service.specs.declared.named.NamedFunction.{NamedFunction}
+use Rattle.chain_service.proofs.Joined.{cut_joined}
 
 first_counts : (f : NamedFunction) (later : List (Piece NamedFunction)) → functions_count (with_first f later) ≡ suc (functions_count later)
 first_counts f [] = omega (arith, sum_by-cons count_of (compiled (f ∷ [])) [])
@@ -32,10 +34,13 @@ made_counts name (made.Encap tunnel) later = omega (arith, sum_by-cons count_of 
 made_counts name (made.Decap tunnel) later = omega (arith, sum_by-cons count_of (Whole (decapsulated tunnel)) later)
 
 -- pieces have the functions that are cut
-cut_counts : (decls : List FunctionDecl) → functions_count (cut decls) ≡ length decls
-unfolding cut
-cut_counts [] = refl
-cut_counts (decl ∷ decls) = made_counts decl.name (function_of decl) (cut decls) ∙ ap suc (cut_counts decls)
+joined_counts : (decls : List FunctionDecl) → functions_count (joined decls) ≡ length decls
+unfolding joined
+joined_counts [] = refl
+joined_counts (decl ∷ decls) = made_counts decl.name (function_of decl) (joined decls) ∙ ap suc (joined_counts decls)
+
+cut_counts : (decls : List FunctionDecl) → functions_count (pieces_among decls) ≡ length decls
+cut_counts decls = ap functions_count (cut_joined decls) ∙ joined_counts decls
 
 one_at_most : (declared : List FunctionDecl) (place : ℕ) → length (declared_at declared place) ≤ 1
 one_at_most declared place = go (slice_get declared place)

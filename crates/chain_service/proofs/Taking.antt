@@ -11,8 +11,7 @@ use Rattle.std.proofs.lemmas.Bool.Decides.{nat_tests}
 use Rattle.policy_text.specs.declared.policy.FunctionDecl.{FunctionDecl}
 use Rattle.segment_run.specs.NetFunctions.{Made, function_of}
 use Rattle.policy_judge.specs.Making.{place_of}
-use Rattle.chain_service.specs.Cutting.{GoesOn, cut_with, with_declared}
-use Rattle.chain_service.specs.Services.{with_made}
+use Rattle.chain_service.specs.Cutting.{GoesOn, cut_with, with_declared, with_made}
 use Rattle.chain_service.specs.Taking.{without, without_all}
 use Rattle.chain_service.specs.declared.cutting.Cutting.{Cutting}
 

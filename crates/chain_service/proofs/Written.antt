@@ -22,8 +22,10 @@ use Rattle.policy_text.specs.declared.policy.ChainPolicy.{ChainPolicy}
 use Rattle.policy_text.specs.declared.policy.FunctionDecl.{FunctionDecl}
 use Rattle.chain_service.specs.Fitting.{CanRunIn, Fits}
 use Rattle.chain_service.specs.NamedFunctions.{named_behaviour}
-use Rattle.chain_service.specs.Services.{cut, declared_at, pieces_at, with_first, with_made}
+use Rattle.chain_service.specs.Cutting.{joined, with_first, with_made}
+use Rattle.chain_service.specs.Services.{declared_at, pieces_among, pieces_at}
 use Rattle.chain_service.specs.declared.named.NamedFunction.{NamedFunction}
+use Rattle.chain_service.proofs.Joined.{cut_joined}
 
 abbrev profile_declared : FunctionDecl → Profile
 profile_declared decl = profile_of decl.kind
@@ -76,10 +78,13 @@ made_profiled name (made.Function f) profile profiles later is so = first_profil
 made_profiled name (made.Encap tunnel) profile profiles later is so = whole_profiled (profile ∷ profiles) (encapsulated tunnel) later
 made_profiled name (made.Decap tunnel) profile profiles later is so = whole_profiled (profile ∷ profiles) (decapsulated tunnel) later
 
-cut_profiled : (decls : List FunctionDecl) → Profiled (map profile_declared decls) (cut decls)
-unfolding cut
-cut_profiled [] = refl
-cut_profiled (decl ∷ decls) = made_profiled decl.name (function_of decl) (profile_declared decl) (map profile_declared decls) (cut decls) (profile_made decl) (cut_profiled decls)
+joined_profiled : (decls : List FunctionDecl) → Profiled (map profile_declared decls) (joined decls)
+unfolding joined
+joined_profiled [] = refl
+joined_profiled (decl ∷ decls) = made_profiled decl.name (function_of decl) (profile_declared decl) (map profile_declared decls) (joined decls) (profile_made decl) (joined_profiled decls)
+
+cut_profiled : (decls : List FunctionDecl) → Profiled (map profile_declared decls) (pieces_among decls)
+cut_profiled decls = subst (Profiled (map profile_declared decls)) (sym (cut_joined decls)) (joined_profiled decls)
 
 none_past : (xs : List FunctionDecl) (n : ℕ) → slice_get xs n ≡ None → n < length xs → ⊥
 none_past [] n is inside = omega (arith, inside)
@@ -110,5 +115,5 @@ pub can_run : (chain : ChainPolicy) (order : Order) (graph : Option StagedGraph)
 can_run chain order None ordered fits = tt
 can_run chain order (Some graph) ordered fits =
     let decls : List FunctionDecl = flat_map (declared_at chain.functions) order.positions in
-    runs_profiled graph (profiles_in chain.functions order.positions) (cut decls)
-    (subst (λ ps. Profiled ps (cut decls)) (profiles_at chain.functions order.positions ordered.inside) (cut_profiled decls)) fits
+    runs_profiled graph (profiles_in chain.functions order.positions) (pieces_among decls)
+    (subst (λ ps. Profiled ps (pieces_among decls)) (profiles_at chain.functions order.positions ordered.inside) (cut_profiled decls)) fits

@@ -2,10 +2,12 @@
 use Rattle.std.specs.Prelude.{◌≡◌, ◌≤◌, ◌+◌, ℕ, List, [], ◌∷◌, ◌++◌, length, slice_get}
 use Rattle.std.specs.Option.{option_map_or}
 use Rattle.policy_text.specs.declared.policy.FunctionDecl.{FunctionDecl}
-use Rattle.segment_run.specs.NetFunctions.{function_of}
-use Rattle.piece_walk.specs.Pieces.{Piece}
+use Rattle.segment_run.specs.NetFunctions.{Made, function_of}
+use Rattle.segment_run.specs.MadeVariants as made
+use Rattle.nf_tunnel.specs.Tunnels.{encapsulated, decapsulated}
+use Rattle.piece_walk.specs.Pieces.{Piece, Graph, Whole}
 use Rattle.segment_run.specs.Segments.{pieces_of}
-use Rattle.chain_service.specs.Services.{compiled, with_first, with_made}
+use Rattle.chain_service.specs.Services.{compiled}
 use Rattle.chain_service.specs.declared.cutting.Cutting.{Cutting}
 use Rattle.chain_service.specs.declared.named.NamedFunction.{NamedFunction}
 
@@ -13,6 +15,22 @@ use Rattle.chain_service.specs.declared.named.NamedFunction.{NamedFunction}
 abbrev pub closed : List NamedFunction → List (Piece NamedFunction)
 closed [] = []
 closed (f ∷ functions) = compiled (f ∷ functions) ∷ []
+
+-- a function in front of pieces: it is in the first one, if that has a graph
+abbrev pub with_first : NamedFunction → List (Piece NamedFunction) → List (Piece NamedFunction)
+with_first f (Graph stages functions ∷ later) = compiled (f ∷ functions) ∷ later
+with_first f pieces = compiled (f ∷ []) ∷ pieces
+
+-- the same for a function that was made: one that rewrites frames whole is a piece by itself
+abbrev pub with_made : List ℕ → Made → List (Piece NamedFunction) → List (Piece NamedFunction)
+with_made name (made.Function f) later = with_first (record { name = name; function = f }) later
+with_made name (made.Encap tunnel) later = Whole (encapsulated tunnel) ∷ later
+with_made name (made.Decap tunnel) later = Whole (decapsulated tunnel) ∷ later
+
+-- the pieces of a chain, one function after another
+unfoldable pub joined : List FunctionDecl → List (Piece NamedFunction)
+joined [] = []
+joined (decl ∷ later) = with_made decl.name (function_of decl) (joined later)
 
 -- functions in front of pieces: they are in the first one, if that has a graph
 unfoldable pub with_all : List NamedFunction → List (Piece NamedFunction) → List (Piece NamedFunction)

@@ -1,13 +1,15 @@
 -- Believed: what a policy runs: its chains, each cut into pieces, with its functions in walking order. A chain with
 -- a hand-written graph runs in that graph.
-use Rattle.std.specs.Prelude.{ℕ, List, [], ◌∷◌, map, slice_get, Option, Some, None, Result, Ok, Err}
+use Rattle.std.specs.Prelude.{ℕ, Bool, List, [], ◌∷◌, map, slice_get, Option, Some, None, Result, Ok, Err}
 use Rattle.std.specs.List.{flat_map, zip}
 use Rattle.std.specs.Option.{option_map_or}
+use Rattle.action_profile.specs.Profiles.{profile_of}
 use Rattle.policy_text.specs.declared.policy.ChainPolicy.{ChainPolicy}
 use Rattle.policy_text.specs.declared.policy.FunctionDecl.{FunctionDecl}
 use Rattle.policy_check.specs.declared.fault.Order.{Order}
 use Rattle.policy_judge.specs.declared.fault.Refusal.{Refusal}
 use Rattle.policy_judge.specs.declared.judged.Judged.{Judged}
+unfoldable pub use Rattle.graph_compile.specs.Cutting.{cut}
 use Rattle.graph_compile.specs.Stages.{graph_of}
 use Rattle.graph_compile.specs.declared.graph.Graph.{Graph as StagedGraph}
 use Rattle.graph_compile.specs.declared.graph.Stage.{Stage}
@@ -35,21 +37,32 @@ stages_of functions = (graph_of (map named_behaviour.profile functions)).stages
 abbrev pub compiled : List NamedFunction → Piece NamedFunction
 compiled functions = Graph (stages_of functions) functions
 
--- a function in front of pieces: it is in the first one, if that has a graph
-abbrev pub with_first : NamedFunction → List (Piece NamedFunction) → List (Piece NamedFunction)
-with_first f (Graph stages functions ∷ later) = compiled (f ∷ functions) ∷ later
-with_first f pieces = compiled (f ∷ []) ∷ pieces
+-- the function that is declared so, with its name; none for one that rewrites frames whole
+abbrev pub named : List ℕ → Made → List NamedFunction
+named name (made.Function f) = record { name = name; function = f } ∷ []
+named name (made.Encap tunnel) = []
+named name (made.Decap tunnel) = []
 
--- the same for a function that was made: one that rewrites frames whole is a piece by itself
-abbrev pub with_made : List ℕ → Made → List (Piece NamedFunction) → List (Piece NamedFunction)
-with_made name (made.Function f) later = with_first (record { name = name; function = f }) later
-with_made name (made.Encap tunnel) later = Whole (encapsulated tunnel) ∷ later
-with_made name (made.Decap tunnel) later = Whole (decapsulated tunnel) ∷ later
+abbrev pub named_of : FunctionDecl → List NamedFunction
+named_of decl = named decl.name (function_of decl)
+
+-- the piece of declarations of which the first makes this: one that rewrites frames whole is alone
+abbrev pub piece_by : Made → List FunctionDecl → Piece NamedFunction
+piece_by (made.Function f) decls = compiled (flat_map named_of decls)
+piece_by (made.Encap tunnel) decls = Whole (encapsulated tunnel)
+piece_by (made.Decap tunnel) decls = Whole (decapsulated tunnel)
+
+abbrev pub piece_among : List FunctionDecl → Piece NamedFunction
+piece_among [] = compiled []
+piece_among (decl ∷ later) = piece_by (function_of decl) (decl ∷ later)
+
+-- the kind of a function rewrites packets whole: the chain is cut before and after it
+abbrev pub is_whole : FunctionDecl → Bool
+is_whole decl = (profile_of decl.kind).whole
 
 -- the pieces of functions that are declared so, in chain order
-unfoldable pub cut : List FunctionDecl → List (Piece NamedFunction)
-cut [] = []
-cut (decl ∷ later) = with_made decl.name (function_of decl) (cut later)
+abbrev pub pieces_among : List FunctionDecl → List (Piece NamedFunction)
+pieces_among decls = map piece_among (cut is_whole decls)
 
 -- the declaration at a place, counted from 0; none past the last
 abbrev pub declared_at : List FunctionDecl → ℕ → List FunctionDecl
@@ -57,7 +70,7 @@ declared_at declared place = option_map_or (λ decl. decl ∷ []) (slice_get dec
 
 -- the pieces of the functions that are declared at these places, in this order
 abbrev pub pieces_at : List FunctionDecl → List ℕ → List (Piece NamedFunction)
-pieces_at declared places = cut (flat_map (declared_at declared) places)
+pieces_at declared places = pieces_among (flat_map (declared_at declared) places)
 
 -- the functions of a piece in another graph; one that rewrites frames whole runs in none
 abbrev pub by_graph : StagedGraph → Piece NamedFunction → Piece NamedFunction

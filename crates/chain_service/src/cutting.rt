@@ -21,8 +21,7 @@ pub struct Cutting {
 impl Cutting {
     ghost use Rattle.std.specs.Prelude.{◌≡◌, ◌≤◌, ◌++◌, ◌∷◌, [], length, IfOk};
     ghost use Rattle.segment_run.specs.Segments.{piece_of, pieces_of};
-    ghost use Rattle.chain_service.specs.Cutting.{GoesOn, closed};
-    ghost use Rattle.chain_service.specs.Services.{with_made};
+    ghost use Rattle.chain_service.specs.Cutting.{GoesOn, closed, with_made};
 
     /// A chain without functions.
     pub fn new(alloc: Global) -> Cutting

@@ -1,4 +1,5 @@
 pub mod Causes
+pub mod Cutting
 pub mod Facts
 pub mod Handing
 pub mod InARow

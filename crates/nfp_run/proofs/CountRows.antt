@@ -42,7 +42,7 @@ use Rattle.graph_compile.specs.Stages.{is_forbidden, holds_back, placed, graph_o
 use Rattle.capture_run.specs.GraphRun.{copies_made}
 use Rattle.capture_run.specs.CaptureReport.{chain_lines, copies_due, copies_lines, drop_lines, drop_text, function_text, last_line, report_bytes, summary, total_line}
 use Rattle.nf_observe.specs.LimiterLines.{line_of as limiter_line_of}
-use Rattle.plan_text.specs.Plan.{branch_text, chain_plan, cut as plan_cut, part_line, pieces_text, stage_text}
+use Rattle.plan_text.specs.Plan.{branch_text, chain_plan, part_line, pieces_text, stage_text}
 use Rattle.nfp_run.proofs.Rows.{head, first, ninth, capture, worth}
 
 -- ---- a monitor after a firewall, beside it in the graph, counts what the firewall passes
@@ -52,7 +52,7 @@ past = codes "nfp 1\nchain main\nfn fw firewall\nrule deny src 10.0.0.9\nfn mon 
 
 past_planned : due_of_plan (worth past)
     ≡ nothing_but Done (codes "chain main\norder fw mon\nstage 1\nbranch 1 fw\nbranch 2 mon\npart tag shared\npart src shared\npart dst shared\npart sport shared\npart dport shared\n")
-unfolding worth making_of profile_by past line_of plan_text chain_plan pieces_text plan_cut stage_text branch_text part_line digits policy_of_utf8 after_line orders_from answer_of edges_of taken stuck named_cycle from_earliest cycle_back first_refusal graph_of placed holds_back is_forbidden pair_of first_forbidden pairs actions all_actions is_copied copied stage_parts touch_of branch_reads branch_writes mode_of copies
+unfolding worth making_of profile_by past line_of plan_text chain_plan pieces_text cut stage_text branch_text part_line digits policy_of_utf8 after_line orders_from answer_of edges_of taken stuck named_cycle from_earliest cycle_back first_refusal graph_of placed holds_back is_forbidden pair_of first_forbidden pairs actions all_actions is_copied copied stage_parts touch_of branch_reads branch_writes mode_of copies
 past_planned = refl
 
 past_written : due_of_run (worth past) capture ≡ record {
@@ -73,7 +73,7 @@ between = codes "nfp 1\nchain main\nfn f1 firewall\nrule deny src 10.0.0.9\nfn m
 
 between_planned : due_of_plan (worth between)
     ≡ nothing_but Done (codes "chain main\norder f1 m f2\nstage 1\nbranch 1 f1\nbranch 2 m\nbranch 3 f2\npart tag shared\npart src shared\npart dst shared\npart sport shared\npart dport shared\n")
-unfolding worth making_of profile_by between line_of plan_text chain_plan pieces_text plan_cut stage_text branch_text part_line digits policy_of_utf8 after_line orders_from answer_of edges_of taken stuck named_cycle from_earliest cycle_back first_refusal graph_of placed holds_back is_forbidden pair_of first_forbidden pairs actions all_actions is_copied copied stage_parts touch_of branch_reads branch_writes mode_of copies
+unfolding worth making_of profile_by between line_of plan_text chain_plan pieces_text cut stage_text branch_text part_line digits policy_of_utf8 after_line orders_from answer_of edges_of taken stuck named_cycle from_earliest cycle_back first_refusal graph_of placed holds_back is_forbidden pair_of first_forbidden pairs actions all_actions is_copied copied stage_parts touch_of branch_reads branch_writes mode_of copies
 between_planned = refl
 
 between_written : due_of_run (worth between) capture ≡ record {
@@ -94,7 +94,7 @@ limited = codes "nfp 1\nchain main\nfn fw firewall\nrule deny src 10.0.0.9\nfn l
 
 limited_planned : due_of_plan (worth limited)
     ≡ nothing_but Done (codes "chain main\norder fw lim\nstage 1\nbranch 1 fw lim\npart tag shared\npart src shared\npart dst shared\npart sport shared\npart dport shared\n")
-unfolding worth making_of profile_by limited line_of plan_text chain_plan pieces_text plan_cut stage_text branch_text part_line digits policy_of_utf8 after_line orders_from answer_of edges_of taken stuck named_cycle from_earliest cycle_back first_refusal graph_of placed holds_back is_forbidden pair_of first_forbidden pairs actions all_actions is_copied copied stage_parts touch_of branch_reads branch_writes mode_of copies limiter_line_of
+unfolding worth making_of profile_by limited line_of plan_text chain_plan pieces_text cut stage_text branch_text part_line digits policy_of_utf8 after_line orders_from answer_of edges_of taken stuck named_cycle from_earliest cycle_back first_refusal graph_of placed holds_back is_forbidden pair_of first_forbidden pairs actions all_actions is_copied copied stage_parts touch_of branch_reads branch_writes mode_of copies limiter_line_of
 limited_planned = refl
 
 limited_written : due_of_run (worth limited) capture ≡ record {

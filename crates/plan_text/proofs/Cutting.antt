@@ -6,8 +6,9 @@ use Rattle.std.proofs.lemmas.Bool.{ltb-false}
 use Rattle.std.proofs.lemmas.List.{append-nil}
 use Rattle.std.proofs.lemmas.List.Elements.{All-drop}
 use Rattle.policy_text.specs.declared.policy.FunctionDecl.{FunctionDecl}
+use Rattle.graph_compile.specs.Cutting.{cut, in_front}
 use Rattle.graph_compile.specs.Stages.{graph_of}
-use Rattle.plan_text.specs.Plan.{cut, is_whole_at, with_place, numbered, pieces_text, stage_text, stages_of}
+use Rattle.plan_text.specs.Plan.{is_whole_at, numbered, pieces_text, stage_text, stages_of}
 use Rattle.plan_text.specs.Putting.{IsFirstPiece, IsPut}
 
 -- The number of elements before the first that passes.
@@ -53,24 +54,24 @@ none_before p [] = refl
 none_before p (x ∷ xs) = none_by p x xs (p x) refl (none_before p xs)
 
 -- Where the first piece begins.
-whole_first : (functions : List FunctionDecl) (place : ℕ) (pieces : List (List ℕ)) → is_whole_at functions place ≡ true → with_place functions place pieces ≡ (place ∷ []) ∷ pieces
+whole_first : (functions : List FunctionDecl) (place : ℕ) (pieces : List (List ℕ)) → is_whole_at functions place ≡ true → in_front (is_whole_at functions) place pieces ≡ (place ∷ []) ∷ pieces
 whole_first functions place [] e = refl
 whole_first functions place (piece ∷ later) e =
     ap (λ b. cond (b || list_any (is_whole_at functions) piece) ((place ∷ []) ∷ piece ∷ later) ((place ∷ piece) ∷ later)) e
 
 beside : (functions : List FunctionDecl) (place : ℕ) (piece : List ℕ) (later : List (List ℕ)) (b : Bool) → is_whole_at functions place ≡ false → list_any (is_whole_at functions) piece ≡ b →
-    with_place functions place (piece ∷ later) ≡ cond b ((place ∷ []) ∷ piece ∷ later) ((place ∷ piece) ∷ later)
+    in_front (is_whole_at functions) place (piece ∷ later) ≡ cond b ((place ∷ []) ∷ piece ∷ later) ((place ∷ piece) ∷ later)
 beside functions place piece later b e any =
     ap (λ a. cond (a || list_any (is_whole_at functions) piece) ((place ∷ []) ∷ piece ∷ later) ((place ∷ piece) ∷ later)) e
     ∙ ap (λ a. cond a ((place ∷ []) ∷ piece ∷ later) ((place ∷ piece) ∷ later)) any
 
 -- this number of functions at the front is the first piece
 record Front (functions : List FunctionDecl) (order : List ℕ) (count : ℕ) : Type 0 where
-  cut : cut functions order ≡ take count order ∷ cut functions (drop count order)
+  cut : cut (is_whole_at functions) order ≡ take count order ∷ cut (is_whole_at functions) (drop count order)
 
 whole_front : (functions : List FunctionDecl) (place : ℕ) (later : List ℕ) → is_whole_at functions place ≡ true → Front functions (place ∷ later) 1
 unfolding cut
-whole_front functions place later e = record { cut = whole_first functions place (cut functions later) e }
+whole_front functions place later e = record { cut = whole_first functions place (cut (is_whole_at functions) later) e }
 
 plain_by : (functions : List FunctionDecl) (place q : ℕ) (qs : List ℕ) (b : Bool) → is_whole_at functions place ≡ false → is_whole_at functions q ≡ b →
     (is_whole_at functions q ≡ false → Front functions (q ∷ qs) (suc (position_or_len (is_whole_at functions) qs))) →
@@ -78,14 +79,14 @@ plain_by : (functions : List FunctionDecl) (place q : ℕ) (qs : List ℕ) (b : 
 unfolding cut
 plain_by functions place q qs true e is later =
     subst (λ n. Front functions (place ∷ q ∷ qs) (suc n)) (sym (at_front (is_whole_at functions) q qs is)) (record {
-      cut = ap (λ l. with_place functions place l) (whole_front functions q qs is).cut
-          ∙ beside functions place (q ∷ []) (cut functions qs) true e (ap (λ b. b || false) is)
+      cut = ap (λ l. in_front (is_whole_at functions) place l) (whole_front functions q qs is).cut
+          ∙ beside functions place (q ∷ []) (cut (is_whole_at functions) qs) true e (ap (λ b. b || false) is)
           ∙ ap (λ l. (place ∷ []) ∷ l) (sym (whole_front functions q qs is).cut);
     })
 plain_by functions place q qs false e is later =
     subst (λ n. Front functions (place ∷ q ∷ qs) (suc n)) (sym (behind_front (is_whole_at functions) q qs is)) (record {
-      cut = ap (λ l. with_place functions place l) (later is).cut
-          ∙ beside functions place (take (suc (position_or_len (is_whole_at functions) qs)) (q ∷ qs)) (cut functions (drop (suc (position_or_len (is_whole_at functions) qs)) (q ∷ qs))) false e
+      cut = ap (λ l. in_front (is_whole_at functions) place l) (later is).cut
+          ∙ beside functions place (take (suc (position_or_len (is_whole_at functions) qs)) (q ∷ qs)) (cut (is_whole_at functions) (drop (suc (position_or_len (is_whole_at functions) qs)) (q ∷ qs))) false e
           (ap (λ b. b || list_any (is_whole_at functions) (take (position_or_len (is_whole_at functions) qs) qs)) is ∙ none_before (is_whole_at functions) qs);
     })
 
@@ -120,9 +121,9 @@ pub one_put : (functions : List FunctionDecl) (order rest : List ℕ) (number : 
     next ≤ number + length (take count rest) → IsPut functions order (drop count rest) next old out'
 unfolding pieces_text
 one_put functions order rest number old out out' count next at first put is few = record {
-  due = ap (λ t. t ++ pieces_text functions next (cut functions (drop count rest))) put
-      ∙ ap (λ n. (out ++ numbered (stage_text functions (take count rest)) number (stages_of functions (take count rest))) ++ pieces_text functions n (cut functions (drop count rest))) is
-      ∙ append_assoc out (numbered (stage_text functions (take count rest)) number (stages_of functions (take count rest))) (pieces_text functions (number + length (stages_of functions (take count rest))) (cut functions (drop count rest)))
+  due = ap (λ t. t ++ pieces_text functions next (cut (is_whole_at functions) (drop count rest))) put
+      ∙ ap (λ n. (out ++ numbered (stage_text functions (take count rest)) number (stages_of functions (take count rest))) ++ pieces_text functions n (cut (is_whole_at functions) (drop count rest))) is
+      ∙ append_assoc out (numbered (stage_text functions (take count rest)) number (stages_of functions (take count rest))) (pieces_text functions (number + length (stages_of functions (take count rest))) (cut (is_whole_at functions) (drop count rest)))
       ∙ ap (λ l. out ++ pieces_text functions number l) (sym first.first)
       ∙ at.due;
   inside = All-drop (λ p. p < length functions) count rest at.inside;
@@ -130,7 +131,7 @@ one_put functions order rest number old out out' count next at first put is few 
   counted = let before = at.counted in omega (arith, is, before);
 }
 
-pub all_put : (functions : List FunctionDecl) (order rest : List ℕ) (number : ℕ) (old out : List ℕ) → IsPut functions order rest number old out → length rest ≡ 0 → out ≡ old ++ pieces_text functions 1 (cut functions order)
+pub all_put : (functions : List FunctionDecl) (order rest : List ℕ) (number : ℕ) (old out : List ℕ) → IsPut functions order rest number old out → length rest ≡ 0 → out ≡ old ++ pieces_text functions 1 (cut (is_whole_at functions) order)
 unfolding pieces_text cut
 all_put functions order [] number old out at none = sym (append-nil out) ∙ at.due
 all_put functions order (place ∷ later) number old out at none = absurd (omega (arith, none))
@@ -140,15 +141,15 @@ neither : (a b : Bool) → (a || b) ≡ false → (a ≡ false) × (b ≡ false)
 neither true b none = absurd cc
 neither false b none = (refl, none)
 
-one_cut : (functions : List FunctionDecl) (place : ℕ) (later : List ℕ) → list_any (is_whole_at functions) (place ∷ later) ≡ false → cut functions (place ∷ later) ≡ (place ∷ later) ∷ []
+one_cut : (functions : List FunctionDecl) (place : ℕ) (later : List ℕ) → list_any (is_whole_at functions) (place ∷ later) ≡ false → cut (is_whole_at functions) (place ∷ later) ≡ (place ∷ later) ∷ []
 unfolding cut
 one_cut functions place [] none = refl
 one_cut functions place (q ∷ qs) none =
     let apart = neither (is_whole_at functions place) (list_any (is_whole_at functions) (q ∷ qs)) none in
-    ap (λ l. with_place functions place l) (one_cut functions q qs apart.1) ∙ beside functions place (q ∷ qs) [] false apart.0 apart.1
+    ap (λ l. in_front (is_whole_at functions) place l) (one_cut functions q qs apart.1) ∙ beside functions place (q ∷ qs) [] false apart.0 apart.1
 
 pub one_piece : (functions : List FunctionDecl) (order : List ℕ) → list_any (is_whole_at functions) order ≡ false →
-    pieces_text functions 1 (cut functions order) ≡ numbered (stage_text functions order) 1 (stages_of functions order)
+    pieces_text functions 1 (cut (is_whole_at functions) order) ≡ numbered (stage_text functions order) 1 (stages_of functions order)
 unfolding pieces_text cut graph_of
 one_piece functions [] none = refl
 one_piece functions (place ∷ later) none =

@@ -12,6 +12,7 @@ use Rattle.action_profile.specs.declared.parts.Mode.TheVariants.{Shared, Moved, 
 use Rattle.action_profile.specs.declared.parts.StageParts.{StageParts}
 use Rattle.action_profile.specs.declared.rights.Profile.{Profile}
 use Rattle.action_profile.specs.Modes.{has_touch, copies}
+use Rattle.graph_compile.specs.Cutting.{cut}
 use Rattle.graph_compile.specs.Stages.{graph_of}
 use Rattle.graph_compile.specs.declared.graph.Branch.{Branch}
 use Rattle.graph_compile.specs.declared.graph.Graph.{Graph}
@@ -29,20 +30,9 @@ profile_in functions place = option_map_or (λ f. profile_of f.kind) (slice_get 
 abbrev pub profiles_in : List FunctionDecl → List ℕ → List Profile
 profiles_in functions order = map (profile_in functions) order
 
--- the function at a place rewrites packets whole
+-- the function at a place rewrites packets whole: the chain is cut before and after it
 abbrev pub is_whole_at : List FunctionDecl → ℕ → Bool
 is_whole_at functions place = (profile_in functions place).whole
-
--- a place in front of pieces: in the first one, unless one of the two functions rewrites packets whole
-abbrev pub with_place : List FunctionDecl → ℕ → List (List ℕ) → List (List ℕ)
-with_place functions place [] = (place ∷ []) ∷ []
-with_place functions place (piece ∷ later) =
-    if is_whole_at functions place || list_any (is_whole_at functions) piece then (place ∷ []) ∷ piece ∷ later else (place ∷ piece) ∷ later
-
--- a chain, cut before and after each function that rewrites packets whole
-unfoldable pub cut : List FunctionDecl → List ℕ → List (List ℕ)
-cut functions [] = []
-cut functions (place ∷ later) = with_place functions place (cut functions later)
 
 -- the stages of a piece, as if it were a chain
 abbrev pub stages_of : List FunctionDecl → List ℕ → List Stage
@@ -89,7 +79,7 @@ pieces_text functions number (piece ∷ later) =
 
 -- the stages of a chain: those of the graph that was written for it, or else those of its pieces
 abbrev pub stages_text : List FunctionDecl → List ℕ → Option Graph → List ℕ
-stages_text functions order None = pieces_text functions 1 (cut functions order)
+stages_text functions order None = pieces_text functions 1 (cut (is_whole_at functions) order)
 stages_text functions order (Some graph) = numbered (stage_text functions order) 1 graph.stages
 
 -- the line of a chain, the line of its functions in chain order, and its stages

@@ -1,7 +1,8 @@
 //! The pieces of a chain, cut before and after each function that rewrites packets whole.
 ghost use Rattle.std.specs.Prelude.{◌≡◌, ◌<◌, ◌≤◌, ◌+◌, ◌++◌, length, position, All, IfOk, OnOk};
 ghost use Rattle.std.specs.List.{position_or_len};
-ghost use Rattle.plan_text.specs.Plan.{cut, is_whole_at, numbered, pieces_text, stage_text, stages_of};
+ghost use Rattle.graph_compile.specs.Cutting.{cut};
+ghost use Rattle.plan_text.specs.Plan.{is_whole_at, numbered, pieces_text, stage_text, stages_of};
 ghost use Rattle.plan_text.specs.Putting.{IsFirstPiece};
 
 use crate::branches::put_branches;
@@ -23,7 +24,7 @@ pub(crate) fn put_pieces(
 ) -> Result<(), AllocError>
     requires inside { All (λ p. p < length functions.now) order.now }
     requires few { length order.now ≤ 64 }
-    ensures { OnOk result (out.new.items ≡ out.old.items ++ pieces_text functions.now 1 (cut functions.now order.now)) }
+    ensures { OnOk result (out.new.items ≡ out.old.items ++ pieces_text functions.now 1 (cut (is_whole_at functions.now) order.now)) }
 {
     let mut rest = order;
     let mut number = 1;
