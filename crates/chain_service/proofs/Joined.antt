@@ -16,7 +16,7 @@ use Rattle.chain_service.specs.Services.{compiled, is_whole, named, named_of, pi
 use Rattle.chain_service.specs.declared.named.NamedFunction.{NamedFunction}
 
 -- what is made of a kind that rewrites packets whole, and of one that doesn't
-abbrev IsMade : Bool → Made → Type 0
+abbrev pub IsMade : Bool → Made → Type 0
 IsMade true (made.Function f) = ⊥
 IsMade true (made.Encap tunnel) = Unit {0}
 IsMade true (made.Decap tunnel) = Unit {0}
@@ -24,7 +24,7 @@ IsMade false (made.Function f) = Unit {0}
 IsMade false (made.Encap tunnel) = ⊥
 IsMade false (made.Decap tunnel) = ⊥
 
-is_made : (decl : FunctionDecl) → IsMade (is_whole decl) (function_of decl)
+pub is_made : (decl : FunctionDecl) → IsMade (is_whole decl) (function_of decl)
 unfolding making_of
 is_made decl = go decl.kind
   where
@@ -50,15 +50,15 @@ IsHeaded [] = Unit {0}
 IsHeaded ([] ∷ later) = ⊥
 IsHeaded ((decl ∷ decls) ∷ later) = list_any is_whole (decl ∷ decls) ≡ is_whole decl
 
-or_false : (b : Bool) → (b || false) ≡ b
+pub or_false : (b : Bool) → (b || false) ≡ b
 or_false true = refl
 or_false false = refl
 
-front_by : (decl : FunctionDecl) (piece : List FunctionDecl) (later : List (List FunctionDecl)) (b : Bool) → (is_whole decl || list_any is_whole piece) ≡ b →
+pub front_by : (decl : FunctionDecl) (piece : List FunctionDecl) (later : List (List FunctionDecl)) (b : Bool) → (is_whole decl || list_any is_whole piece) ≡ b →
     in_front is_whole decl (piece ∷ later) ≡ cond b ((decl ∷ []) ∷ piece ∷ later) ((decl ∷ piece) ∷ later)
 front_by decl piece later b e = ap (λ a. cond a ((decl ∷ []) ∷ piece ∷ later) ((decl ∷ piece) ∷ later)) e
 
-first_false : (a b : Bool) → (a || b) ≡ false → false ≡ a
+pub first_false : (a b : Bool) → (a || b) ≡ false → false ≡ a
 first_false true b is = absurd cc
 first_false false b is = refl
 
@@ -73,7 +73,7 @@ headed decl (piece ∷ later) =
     subst IsHeaded (sym (front_by decl piece later (is_whole decl || list_any is_whole piece) refl)) (headed_by decl piece later (is_whole decl || list_any is_whole piece) refl)
 
 -- a function with its name, in front of the others of its piece
-named_first : (decl : FunctionDecl) (f : NetFunction) (decls : List FunctionDecl) → function_of decl ≡ made.Function f →
+pub named_first : (decl : FunctionDecl) (f : NetFunction) (decls : List FunctionDecl) → function_of decl ≡ made.Function f →
     flat_map named_of (decl ∷ decls) ≡ record { name = decl.name; function = f } ∷ flat_map named_of decls
 named_first decl f decls is = ap (λ one. named decl.name one ++ flat_map named_of decls) is
 
@@ -114,11 +114,11 @@ tunnel_joins : (decl : FunctionDecl) (pieces : List (List FunctionDecl)) → is_
 tunnel_joins decl [] whole = refl
 tunnel_joins decl (piece ∷ later) whole = ap (map piece_among) (front_by decl piece later true (ap (λ b. b || list_any is_whole piece) whole))
 
-is_plain : (whole : Bool) (f : NetFunction) → IsMade whole (made.Function f) → whole ≡ false
+pub is_plain : (whole : Bool) (f : NetFunction) → IsMade whole (made.Function f) → whole ≡ false
 is_plain true f is = absurd is
 is_plain false f is = refl
 
-is_entry : (whole : Bool) (one : Made) → IsMade whole one → IsMade true one → whole ≡ true
+pub is_entry : (whole : Bool) (one : Made) → IsMade whole one → IsMade true one → whole ≡ true
 is_entry true one is tunnel = refl
 is_entry false (made.Function f) is tunnel = absurd tunnel
 is_entry false (made.Encap t) is tunnel = absurd is

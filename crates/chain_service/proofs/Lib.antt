@@ -4,5 +4,6 @@ pub mod Joined
 pub mod Joining
 pub mod Opens
 pub mod Serving
+pub mod Shown
 pub mod Taking
 pub mod Written

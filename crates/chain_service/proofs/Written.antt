@@ -27,16 +27,16 @@ use Rattle.chain_service.specs.Services.{declared_at, pieces_among, pieces_at}
 use Rattle.chain_service.specs.declared.named.NamedFunction.{NamedFunction}
 use Rattle.chain_service.proofs.Joined.{cut_joined}
 
-abbrev profile_declared : FunctionDecl → Profile
+abbrev pub profile_declared : FunctionDecl → Profile
 profile_declared decl = profile_of decl.kind
 
 -- the profile of a function that is made
-abbrev HasProfile : Profile → Made → Type 0
+abbrev pub HasProfile : Profile → Made → Type 0
 HasProfile profile (made.Function f) = net_behaviour.profile f ≡ profile
 HasProfile profile (made.Encap tunnel) = Unit {0}
 HasProfile profile (made.Decap tunnel) = Unit {0}
 
-profile_made : (decl : FunctionDecl) → HasProfile (profile_declared decl) (function_of decl)
+pub profile_made : (decl : FunctionDecl) → HasProfile (profile_declared decl) (function_of decl)
 unfolding making_of profile_by
 profile_made decl = go decl.kind
   where
@@ -86,13 +86,13 @@ joined_profiled (decl ∷ decls) = made_profiled decl.name (function_of decl) (p
 cut_profiled : (decls : List FunctionDecl) → Profiled (map profile_declared decls) (pieces_among decls)
 cut_profiled decls = subst (Profiled (map profile_declared decls)) (sym (cut_joined decls)) (joined_profiled decls)
 
-none_past : (xs : List FunctionDecl) (n : ℕ) → slice_get xs n ≡ None → n < length xs → ⊥
+pub none_past : (xs : List FunctionDecl) (n : ℕ) → slice_get xs n ≡ None → n < length xs → ⊥
 none_past [] n is inside = omega (arith, inside)
 none_past (x ∷ xs) zero is inside = cc
 none_past (x ∷ xs) (suc n) is inside = none_past xs n is (omega (arith, inside))
 
 -- the functions that are declared at places of a chain have the profiles of these places
-profiles_at : (functions : List FunctionDecl) (places : List ℕ) → All (λ p. p < length functions) places → map profile_declared (flat_map (declared_at functions) places) ≡ profiles_in functions places
+pub profiles_at : (functions : List FunctionDecl) (places : List ℕ) → All (λ p. p < length functions) places → map profile_declared (flat_map (declared_at functions) places) ≡ profiles_in functions places
 profiles_at functions [] inside = refl
 profiles_at functions (place ∷ places) inside =
     go (slice_get functions place) refl (profiles_at functions places (All-tail (λ p. p < length functions) place places inside))

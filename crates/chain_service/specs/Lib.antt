@@ -5,6 +5,7 @@ pub mod NamedNotes
 pub mod NamedFunctions
 pub mod Opening
 pub mod Services
+pub mod Shown
 pub mod StateRows
 pub mod Taking
 pub mod GraphRun

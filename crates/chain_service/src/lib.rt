@@ -12,10 +12,12 @@
 
 mod cutting;
 mod in_graph;
+mod laws;
 mod named;
 mod pieces;
 mod service;
 
+pub use laws::the_plan_is_what_runs;
 pub use named::NamedFunction;
 pub use pieces::ChainPieces;
 pub use service::{Service, ServiceChain, make_service};

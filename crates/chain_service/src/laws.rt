@@ -1,0 +1,15 @@
+//! A property of what runs.
+
+ghost use Rattle.std.specs.Prelude.{◌≡◌, ◌<◌, ℕ, List, length, map, All};
+ghost use Rattle.graph_compile.specs.Cutting.{cut};
+ghost use Rattle.policy_text.specs.declared.policy.FunctionDecl.{FunctionDecl};
+ghost use Rattle.plan_text.specs.Plan.{is_whole_at};
+ghost use Rattle.chain_service.specs.Services.{pieces_at};
+ghost use Rattle.chain_service.specs.Shown.{stages_run, stages_shown};
+
+/// A law: piece by piece, the stages that the plan of a chain shows are those in which it runs, unless an operator wrote
+/// a graph for it, which is then both shown and run.
+pub fn the_plan_is_what_runs()
+    ensures { (functions : List FunctionDecl) → (order : List ℕ) → All (λ p. p < length functions) order →
+        map stages_run (pieces_at functions order) ≡ map (stages_shown functions) (cut (is_whole_at functions) order) }
+{}
