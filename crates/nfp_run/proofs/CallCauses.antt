@@ -16,7 +16,7 @@ use Rattle.command_words.specs.declared.usage.UsageFault.{UsageFault}
 use Rattle.command_words.specs.Words.{Command, Run, Plan, Demo, Flows}
 use Rattle.nfp_run.specs.Closing.{outcome_seen, untold, Notes}
 use Rattle.nfp_run.specs.Due.{due_of_command}
-use Rattle.nfp_run.specs.Answers.{IsDue, WhereRead, HasNames, name_of, BothAttached, NoneAttached, OutAttached, FaultAttaches, FaultAttachesOut, FlowsAttach, AttachedUnless, RunAttaches, AttachesDue, ReachesCapture, ReadsToEnd, PolicyCause, GraphCause, ReadFaultCause, WriteFaultCause}
+use Rattle.nfp_run.specs.Answers.{IsDue, WhereRead, HasNames, name_of, BothAttached, NoneAttached, OutAttached, FaultAttaches, FaultAttachesOut, FlowsAttach, AttachedUnless, ReportBehindOut, RunAttaches, AttachesDue, ReachesCapture, ReadsToEnd, PolicyCause, GraphCause, ReadFaultCause, WriteFaultCause}
 use Rattle.nfp_run.proofs.ReadToEnd.{to_end}
 use Rattle.nfp_run.proofs.CallAnswers.{Called, called_done, policy_beside, capture_beside, graph_beside, out_beside, report_beside}
 
@@ -328,6 +328,14 @@ called_note_fault command old mid new ended result called e = by_notes called.no
     by_notes (inr (inr (is, r, a))) =
         let done = untold_done (outcome_seen ended) (sym is ∙ e) called.ran.no_note_fault in
         called_done command old mid new ended Done called done (sym done)
+
+-- Report is attached only behind Out, before the line and after it
+pub called_report_behind : (command : Result Command UsageFault) (old mid new : Slot → SlotView) (ended : Ending) (result : Outcome) → Called command old mid new ended result → ReportBehindOut new
+called_report_behind command old mid new ended result called = by called.ran.report_behind
+  where
+    by : ReportBehindOut mid → ReportBehindOut new
+    by (inl free) = inl (ap (λ v. v.name) (called.beside slots.Report report_beside) ∙ free)
+    by (inr out) = inr (subst (λ v. IsSome v.name) (sym (called.beside slots.Out out_beside)) out)
 
 pub called_attached : (command : Result Command UsageFault) (old mid new : Slot → SlotView) (ended : Ending) (result : Outcome) → Called command old mid new ended result → AttachesDue command result new
 called_attached command old mid new ended result called = by_notes called.notes

@@ -14,9 +14,10 @@ use Rattle.nfp_run.specs.Notes.{read_fault_text, write_fault_text}
 use Rattle.nfp_run.specs.Due.{due_of_command}
 use Rattle.nfp_run.specs.Closing.{outcome_seen, untold, text_of, Notes}
 use Rattle.nfp_run.specs.Ran.{Ran}
+use Rattle.nfp_run.specs.Written.{Files}
 use Rattle.nfp_run.specs.Answers.{IsFinal, NoneRose, WhereRead, Leaves, NotesPrefix, ReadFaultCause, WriteFaultCause}
 use Rattle.nfp_outside.specs.Adding.{prefix_whole}
-use Rattle.nfp_run.proofs.CallAnswers.{Called, whole_here, leaves_to, no_fault, policy_beside, capture_beside, graph_beside, out_beside, report_beside}
+use Rattle.nfp_run.proofs.CallAnswers.{Called, whole_here, leaves_to, policy_beside, capture_beside, graph_beside, out_beside, report_beside}
 use Rattle.nfp_run.proofs.TextsTold.{if_read, read_always}
 
 untold_is_not_done : (outcome : Outcome) → untold outcome ≢ Done
@@ -41,16 +42,17 @@ called_done_noted command old mid new ended result called done = by_notes called
     by_notes (inr (inl (is, a))) = absurd cc
     by_notes (inr (inr (is, r, a))) = absurd (untold_is_not_done (outcome_seen ended) (sym is ∙ done))
 
--- The text for an end: the one that is due, the line of a fault of a slot whose count rose, or nothing.
-abbrev IsTold : (Slot → SlotView) → (Slot → SlotView) → List ℕ → List ℕ → Type 0
-IsTold old mid note text =
-    (text ≡ note)
+-- The text for an end: the one that is due, after all that is due was put; the line of a fault of a slot whose count
+-- rose; or nothing.
+abbrev IsTold : (Slot → SlotView) → (Slot → SlotView) → List ℕ → Files → List ℕ → Type 0
+IsTold old mid note written text =
+    ((text ≡ note) × Leaves written old mid)
     ⊎ ((s : Slot) × (s ≢ slots.Note) × IsRisen (old s).faults (mid s).faults × (text ≡ read_fault_text s))
     ⊎ ((s : Slot) × (s ≢ slots.Note) × IsRisen (old s).faults (mid s).faults × (text ≡ write_fault_text s))
     ⊎ (text ≡ [])
 
-due_told : (command : Result Command UsageFault) (old mid : Slot → SlotView) (ended : Ending) → Ran command old mid ended → IsFinal (outcome_seen ended) → WhereRead command old (λ p g c. IsTold old mid (due_of_command command p g c).note (text_of ended))
-due_told command old mid ended ran final = if_read command old _ _ (λ p g c ends. inl ends.note) (ran.due final)
+due_told : (command : Result Command UsageFault) (old mid : Slot → SlotView) (ended : Ending) → Ran command old mid ended → IsFinal (outcome_seen ended) → WhereRead command old (λ p g c. IsTold old mid (due_of_command command p g c).note (due_of_command command p g c).written (text_of ended))
+due_told command old mid ended ran final = if_read command old _ _ (λ p g c ends. inl (ends.note, ends.left)) (ran.due final)
 
 -- a fault of a slot comes only if its count rose, and it isn't Note's
 risen_reading : (command : Result Command UsageFault) (old mid : Slot → SlotView) (s : Slot) → ReadFaultCause command old mid s → (s ≢ slots.Note) × IsRisen (old s).faults (mid s).faults
@@ -69,7 +71,7 @@ risen_writing command old mid slots.Policy other h = absurd h
 risen_writing command old mid slots.Capture other h = absurd h
 risen_writing command old mid slots.Graph other h = absurd h
 
-told_text : (command : Result Command UsageFault) (old mid : Slot → SlotView) (ended : Ending) → Ran command old mid ended → WhereRead command old (λ p g c. IsTold old mid (due_of_command command p g c).note (text_of ended))
+told_text : (command : Result Command UsageFault) (old mid : Slot → SlotView) (ended : Ending) → Ran command old mid ended → WhereRead command old (λ p g c. IsTold old mid (due_of_command command p g c).note (due_of_command command p g c).written (text_of ended))
 told_text command old mid (Completed totals) ran = due_told command old mid (Completed totals) ran tt
 told_text command old mid (Shown text) ran = due_told command old mid (Shown text) ran tt
 told_text command old mid (Refused refusal) ran = due_told command old mid (Refused refusal) ran tt
@@ -91,13 +93,10 @@ nothing_in_front (b ∷ done) rest e = absurd cc
 nothing_before : (old new : SlotView) → AppendsPrefix [] old new → Appends [] old new
 nothing_before old new a = subst (λ d. Appends d old new) (nothing_in_front a.done a.rest a.parts) a.appended
 
--- a prefix of nothing is a prefix of any text
-of_nothing : (note : List ℕ) (old new : SlotView) → AppendsPrefix [] old new → AppendsPrefix note old new
-of_nothing note old new a = record { done = []; rest = note; parts = refl; appended = nothing_before old new a }
-
 -- the slots beside Note, and Note before its line, are those in the middle
-prefix_told : (note text : List ℕ) (old mid new : Slot → SlotView) → mid slots.Note ≡ old slots.Note → ((s : Slot) → s ≢ slots.Note → new s ≡ mid s) → IsTold old mid note text → AppendsPrefix text (mid slots.Note) (new slots.Note) → NotesPrefix note old new
-prefix_told note text old mid new stays beside told a = by told
+prefix_told : (note text : List ℕ) (written : Files) (old mid new : Slot → SlotView) → mid slots.Note ≡ old slots.Note → ((s : Slot) → s ≢ slots.Note → new s ≡ mid s) → IsTold old mid note written text → AppendsPrefix text (mid slots.Note) (new slots.Note) →
+    NotesPrefix note written old new
+prefix_told note text written old mid new stays beside told a = by told
   where
     put : (line : List ℕ) → text ≡ line → AppendsPrefix line (old slots.Note) (new slots.Note)
     put line e = subst (λ v. AppendsPrefix line v (new slots.Note)) stays (subst (λ t. AppendsPrefix t (mid slots.Note) (new slots.Note)) e a)
@@ -105,16 +104,16 @@ prefix_told note text old mid new stays beside told a = by told
     still : (s : Slot) → s ≢ slots.Note → IsRisen (old s).faults (mid s).faults → IsRisen (old s).faults (new s).faults
     still s other h = subst (λ v. IsRisen (old s).faults v.faults) (sym (beside s other)) h
 
-    by : IsTold old mid note text → NotesPrefix note old new
-    by (inl e) = inl (put note e)
+    by : IsTold old mid note written text → NotesPrefix note written old new
+    by (inl (e, left)) = inl (put note e, leaves_to written old mid new (beside slots.Out out_beside) (beside slots.Report report_beside) left)
     by (inr (inl (s, other, h, e))) = inr (inl (s, still s other h, put (read_fault_text s) e))
-    by (inr (inr (inl (s, other, h, e)))) = inr (inr (s, still s other h, put (write_fault_text s) e))
-    by (inr (inr (inr e))) = inl (of_nothing note (old slots.Note) (new slots.Note) (put [] e))
+    by (inr (inr (inl (s, other, h, e)))) = inr (inr (inl (s, still s other h, put (write_fault_text s) e)))
+    by (inr (inr (inr e))) = inr (inr (inr (nothing_before (old slots.Note) (new slots.Note) (put [] e))))
 
 pub called_noted_short : (command : Result Command UsageFault) (old mid new : Slot → SlotView) (ended : Ending) (result : Outcome) → Called command old mid new ended result → result ≡ OutOfMemory →
-    WhereRead command old (λ p g c. NotesPrefix (due_of_command command p g c).note old new)
+    WhereRead command old (λ p g c. NotesPrefix (due_of_command command p g c).note (due_of_command command p g c).written old new)
 called_noted_short command old mid new ended result called short = if_read command old _ _
-    (λ p g c told. prefix_told (due_of_command command p g c).note (text_of ended) old mid new called.ran.note_stays called.beside told (by_notes called.notes))
+    (λ p g c told. prefix_told (due_of_command command p g c).note (text_of ended) (due_of_command command p g c).written old mid new called.ran.note_stays called.beside told (by_notes called.notes))
     (told_text command old mid ended called.ran)
   where
     by_notes : Notes ended (mid slots.Note) (new slots.Note) result → AppendsPrefix (text_of ended) (mid slots.Note) (new slots.Note)
@@ -122,35 +121,14 @@ called_noted_short command old mid new ended result called short = if_read comma
     by_notes (inr (inl (is, a))) = a
     by_notes (inr (inr (is, r, a))) = a
 
--- out of memory has no line
-no_text : (ended : Ending) → outcome_seen ended ≡ OutOfMemory → text_of ended ≡ []
-no_text (Completed totals) e = absurd cc
-no_text (Shown text) e = absurd cc
-no_text (Refused refusal) e = absurd cc
-no_text (GraphRefused refusal) e = absurd cc
-no_text (Stopped Done) e = absurd cc
-no_text (Stopped (Usage fault)) e = absurd cc
-no_text (Stopped (Policy fault)) e = absurd cc
-no_text (Stopped (Graph fault)) e = absurd cc
-no_text (Stopped (Capture fault)) e = absurd cc
-no_text (Stopped (CaptureNg fault)) e = absurd cc
-no_text (Stopped (ReadFault s)) e = absurd cc
-no_text (Stopped (WriteFault s)) e = absurd cc
-no_text (Stopped OutOfMemory) e = refl
-
--- so nothing was put
-nothing_put : (ended : Ending) (old new : SlotView) (result : Outcome) → text_of ended ≡ [] → Notes ended old new result → Appends [] old new
-nothing_put ended old new result e (inl (is, a)) = subst (λ t. Appends t old new) e a
-nothing_put ended old new result e (inr (inl (is, a))) = nothing_before old new (subst (λ t. AppendsPrefix t old new) e a)
-nothing_put ended old new result e (inr (inr (is, r, a))) = nothing_before old new (subst (λ t. AppendsPrefix t old new) e a)
-
 pub called_noted_late : (command : Result Command UsageFault) (old mid new : Slot → SlotView) (ended : Ending) (result : Outcome) → Called command old mid new ended result → result ≡ OutOfMemory → NoneRose old new →
     WhereRead command old (λ p g c. Leaves (due_of_command command p g c).written old new ⊎ Appends [] (old slots.Note) (new slots.Note))
-called_noted_late command old mid new ended result called short none = by_end (no_fault command old mid new ended called.ran called.beside none)
+called_noted_late command old mid new ended result called short none = if_read command old _ _
+    (λ p g c notes. by (due_of_command command p g c).note (due_of_command command p g c).written notes)
+    (called_noted_short command old mid new ended result called short)
   where
-    by_end : IsFinal (outcome_seen ended) ⊎ (outcome_seen ended ≡ OutOfMemory) → WhereRead command old (λ p g c. Leaves (due_of_command command p g c).written old new ⊎ Appends [] (old slots.Note) (new slots.Note))
-    by_end (inl final) = if_read command old _ _
-        (λ p g c ends. inl (leaves_to (due_of_command command p g c).written old mid new (called.beside slots.Out out_beside) (called.beside slots.Report report_beside) ends.left))
-        (called.ran.due final)
-    by_end (inr late) = read_always command old _
-        (λ p g c. inr (subst (λ v. Appends [] v (new slots.Note)) called.ran.note_stays (nothing_put ended (mid slots.Note) (new slots.Note) result (no_text ended late) called.notes)))
+    by : (note : List ℕ) (written : Files) → NotesPrefix note written old new → Leaves written old new ⊎ Appends [] (old slots.Note) (new slots.Note)
+    by note written (inl (a, left)) = inl left
+    by note written (inr (inl (s, risen, a))) = absurd (none s risen)
+    by note written (inr (inr (inl (s, risen, a)))) = absurd (none s risen)
+    by note written (inr (inr (inr nothing))) = inr nothing

@@ -41,6 +41,7 @@ unread_ran command old free = record {
   within = tt;
   names_are = no_names command old free;
   attached = none_attached command old free;
+  report_behind = inl (free slots.Report);
   note_stays = refl;
   usage = λ fault x. absurd cc;
   usage_always = λ fault x. inr refl;

@@ -3,7 +3,7 @@ use Rattle.std.specs.Prelude.{◌≡◌, ◌⊎◌, ℕ, List, [], ◌++◌, Opt
 use Rattle.std.specs.Option.{option_map}
 use Rattle.nfp_outside.specs.declared.slot.Slot.{Slot}
 use Rattle.nfp_outside.specs.declared.slot.Slot.TheVariants as slots
-use Rattle.nfp_outside.specs.Outside.{SlotView, IsRisen, AppendsPrefix}
+use Rattle.nfp_outside.specs.Outside.{SlotView, IsRisen, Appends, AppendsPrefix}
 use Rattle.pcap_io.specs.Capture.{capture_of}
 use Rattle.pcap_io.specs.declared.capture.CaptureFault.{CaptureFault}
 use Rattle.pcap_io.specs.declared.capture.CaptureFault.TheVariants.{BadMagic, BadVersion, BadLink, CutHead, CutRecord, FrameTooLong, TooManyRecords}
@@ -104,12 +104,14 @@ note_due (WriteFault slots.Report) note = write_fault_text slots.Report
 note_due (WriteFault slot) note = note
 note_due outcome note = note
 
--- A prefix of what is due is put into Note, or of the line of a fault of reading or writing a slot whose count rose.
-abbrev pub NotesPrefix : List ℕ → (Slot → SlotView) → (Slot → SlotView) → Type 0
-NotesPrefix note old new =
-    AppendsPrefix note (old slots.Note) (new slots.Note)
+-- A prefix of what is due is put into Note, and Out and Report hold all that is due; or a prefix of the line of a fault
+-- of reading or writing a slot whose count rose; or nothing.
+abbrev pub NotesPrefix : List ℕ → Files → (Slot → SlotView) → (Slot → SlotView) → Type 0
+NotesPrefix note written old new =
+    (AppendsPrefix note (old slots.Note) (new slots.Note) × Leaves written old new)
     ⊎ ((s : Slot) × IsRisen (old s).faults (new s).faults × AppendsPrefix (read_fault_text s) (old slots.Note) (new slots.Note))
     ⊎ ((s : Slot) × IsRisen (old s).faults (new s).faults × AppendsPrefix (write_fault_text s) (old slots.Note) (new slots.Note))
+    ⊎ Appends [] (old slots.Note) (new slots.Note)
 
 -- the name that a command gives a slot
 abbrev pub name_of : Command → Slot → Option (List ℕ)
@@ -167,6 +169,10 @@ NoneAttached new = ((new slots.Out).name ≡ None) × ((new slots.Report).name �
 
 abbrev pub OutAttached : (Slot → SlotView) → Type 0
 OutAttached new = IsSome (new slots.Out).name × ((new slots.Report).name ≡ None)
+
+-- Report is attached only behind Out
+abbrev pub ReportBehindOut : (Slot → SlotView) → Type 0
+ReportBehindOut new = ((new slots.Report).name ≡ None) ⊎ IsSome (new slots.Out).name
 
 -- a refused head leaves both unattached; the report shows a fault after it
 abbrev pub FaultAttaches : CaptureFault → (Slot → SlotView) → Type 0

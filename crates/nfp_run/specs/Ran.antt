@@ -11,7 +11,7 @@ use Rattle.command_words.specs.declared.usage.UsageFault.{UsageFault}
 use Rattle.command_words.specs.Words.{Command}
 use Rattle.nfp_run.specs.Due.{due_of_command}
 use Rattle.nfp_run.specs.Closing.{outcome_seen, EndsDue, CountsWithin}
-use Rattle.nfp_run.specs.Answers.{IsFinal, WhereRead, LeavesPrefixes, HasNames, AttachesDue, ReachesCapture, ReadsToEnd, PolicyCause, GraphCause, ReadFaultCause, WriteFaultCause}
+use Rattle.nfp_run.specs.Answers.{IsFinal, WhereRead, LeavesPrefixes, HasNames, AttachesDue, ReportBehindOut, ReachesCapture, ReadsToEnd, PolicyCause, GraphCause, ReadFaultCause, WriteFaultCause}
 
 pub record Ran (command : Result Command UsageFault) (old new : Slot → SlotView) (ending : Ending) : Type 0 where
   pub due : IsFinal (outcome_seen ending) → WhereRead command old (λ p g c. EndsDue (due_of_command command p g c) old new ending)
@@ -19,6 +19,7 @@ pub record Ran (command : Result Command UsageFault) (old new : Slot → SlotVie
   pub within : CountsWithin ending
   pub names_are : HasNames command new
   pub attached : AttachesDue command (outcome_seen ending) new
+  pub report_behind : ReportBehindOut new
   pub note_stays : new slots.Note ≡ old slots.Note
   pub usage : (fault : UsageFault) → outcome_seen ending ≡ Usage fault → command ≡ Err fault
   pub usage_always : (fault : UsageFault) → command ≡ Err fault → (outcome_seen ending ≡ Usage fault) ⊎ (outcome_seen ending ≡ OutOfMemory)

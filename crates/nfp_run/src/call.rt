@@ -5,7 +5,7 @@ ghost use Rattle.nfp_outside.specs.Outside.{Appends, AppendsPrefix, IsRisen};
 ghost use Rattle.graph_text.specs.declared.fault.GraphFault.{GraphFault};
 ghost use Rattle.policy_judge.specs.declared.fault.PolicyFault.{PolicyFault};
 ghost use Rattle.command_words.specs.declared.usage.UsageFault.{UsageFault};
-ghost use Rattle.nfp_run.specs.Answers.{IsDue, IsFinal, HasNames, NoneRose, WhereRead, Leaves, LeavesPrefixes, AttachesDue, ReachesCapture, ReadsToEnd, PolicyCause, GraphCause, ReadFaultCause, WriteFaultCause, NotesPrefix, note_due};
+ghost use Rattle.nfp_run.specs.Answers.{IsDue, IsFinal, HasNames, NoneRose, WhereRead, Leaves, LeavesPrefixes, AttachesDue, ReportBehindOut, ReachesCapture, ReadsToEnd, PolicyCause, GraphCause, ReadFaultCause, WriteFaultCause, NotesPrefix, note_due};
 ghost use Rattle.nfp_run.specs.Due.{due};
 ghost use Rattle.command_words.specs.Words.{command_of};
 
@@ -71,10 +71,10 @@ pub fn nfp<R: Threads + Wait + Clock + Sync, D: Desk, G: Gate + Sync>(
     // Done says that Note holds its line or the plan whole, whatever the counts did.
     ensures done_noted { result ≡ Outcome.Done → WhereRead (command_of (map string_bytes words.now)) (D.slots desk.old) (λ p g c.
         Appends (due (map string_bytes words.now) p g c).note (D.slots desk.old Slot.Note) (D.slots desk.new Slot.Note)) }
-    // If memory ran out, Note holds a front part of what is due, or of the line of a fault of reading or writing a slot
-    // whose count rose.
+    // If memory ran out, Note holds a front part of what is due, and then Out and Report hold all that is due; or a front
+    // part of the line of a fault of reading or writing a slot whose count rose; or nothing.
     ensures noted_short { result ≡ Outcome.OutOfMemory → WhereRead (command_of (map string_bytes words.now)) (D.slots desk.old) (λ p g c.
-        NotesPrefix (due (map string_bytes words.now) p g c).note (D.slots desk.old) (D.slots desk.new)) }
+        NotesPrefix (due (map string_bytes words.now) p g c).note (due (map string_bytes words.now) p g c).written (D.slots desk.old) (D.slots desk.new)) }
     // Nothing goes into Note once memory ran out. So if it holds something all the same and no slot failed, Out and
     // Report hold what is due as a whole.
     ensures noted_late { result ≡ Outcome.OutOfMemory → NoneRose (D.slots desk.old) (D.slots desk.new) → WhereRead (command_of (map string_bytes words.now)) (D.slots desk.old) (λ p g c.
@@ -92,6 +92,8 @@ pub fn nfp<R: Threads + Wait + Clock + Sync, D: Desk, G: Gate + Sync>(
     ensures names { HasNames (command_of (map string_bytes words.now)) (D.slots desk.new) }
     // Out and Report are attached exactly if the outcome says so, even if the desk shows no bytes.
     ensures attached { AttachesDue (command_of (map string_bytes words.now)) result (D.slots desk.new) }
+    // Whatever the outcome, Report is attached only if Out is.
+    ensures report_behind { ReportBehindOut (D.slots desk.new) }
 
     // Whether words are refused depends only on the words, unless there is no memory to say so.
     ensures usage { (f : UsageFault) → result ≡ Outcome.Usage f → command_of (map string_bytes words.now) ≡ Err f }

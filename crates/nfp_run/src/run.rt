@@ -7,7 +7,7 @@ ghost use Rattle.graph_text.specs.declared.fault.GraphFault.{GraphFault};
 ghost use Rattle.policy_judge.specs.declared.fault.PolicyFault.{PolicyFault};
 ghost use Rattle.command_words.specs.declared.usage.UsageFault.{UsageFault};
 ghost use Rattle.command_words.specs.Words.{Run};
-ghost use Rattle.nfp_run.specs.Answers.{IsFinal, WhereRead, LeavesPrefixes, HasNames, RunAttaches, ReachesCapture, IsReadWhole, ReadsToEnd, PolicyCause, GraphCause, ReadFaultCause, WriteFaultCause};
+ghost use Rattle.nfp_run.specs.Answers.{IsFinal, WhereRead, LeavesPrefixes, HasNames, ReportBehindOut, RunAttaches, ReachesCapture, IsReadWhole, ReadsToEnd, PolicyCause, GraphCause, ReadFaultCause, WriteFaultCause};
 ghost use Rattle.nfp_run.specs.Attached.{RunLeavesAttached};
 ghost use Rattle.nfp_run.specs.Closing.{outcome_seen, closed, ending_of, Left, LedPartly, LedWhole, EndsDue, CountsWithin};
 ghost use Rattle.nfp_run.specs.Reading.{IsBefore, led_stream, opened_led};
@@ -55,6 +55,7 @@ pub fn run<R: Threads + Wait + Clock + Sync, D: Desk, G: Gate + Sync>(
     ensures within { CountsWithin result }
     ensures names { HasNames (Ok (Run (names_seen names.now) options)) (D.slots desk.new) }
     ensures attached { RunAttaches (outcome_seen result) (D.slots desk.new) }
+    ensures report_behind { ReportBehindOut (D.slots desk.new) }
     ensures note_stays { D.slots desk.new Slot.Note ≡ D.slots desk.old Slot.Note }
     ensures no_usage { (f : UsageFault) → outcome_seen result ≡ Outcome.Usage f → ⊥ }
     ensures refused { (f : PolicyFault) → outcome_seen result ≡ Outcome.Policy f → PolicyCause (Ok (Run (names_seen names.now) options)) (D.slots desk.old) (D.slots desk.new) f }
@@ -120,6 +121,7 @@ fn attach_and_run<R: Threads + Wait + Clock + Sync, D: Desk, G: Gate + Sync>(
     ensures kind { IfOk result (λ ended. IfSome ended.fault (λ fault. ¬ IsOpeningFault fault)) }
     ensures drained { IfOk result (λ ended. IfNone ended.fault (IsReadWhole (D.slots desk.new Slot.Capture))) }
     ensures attached { RunLeavesAttached result (D.slots desk.new) }
+    ensures report_behind { ReportBehindOut (D.slots desk.new) }
     ensures out_name { ((D.slots desk.new Slot.Out).name ≡ None) ⊎ ((D.slots desk.new Slot.Out).name ≡ Some names.now.out.now) }
     ensures report_name { ((D.slots desk.new Slot.Report).name ≡ None) ⊎ ((D.slots desk.new Slot.Report).name ≡ Some names.now.report.now) }
     ensures capture_name { (D.slots desk.new Slot.Capture).name ≡ (D.slots desk.old Slot.Capture).name }

@@ -3,7 +3,7 @@ use Rattle.std.specs.Prelude.{string_bytes}
 use Rattle.command_words.specs.Words.{command_of}
 use Rattle.nfp_run.proofs.CallAnswers.{called_exact, called_prefixes, called_answers, called_noted, called_noted_whole}
 use Rattle.nfp_run.proofs.NotedLines.{called_done_noted, called_noted_short, called_noted_late}
-use Rattle.nfp_run.proofs.CallCauses.{called_names, called_usage_always, called_note_fault, called_attached, called_graph_refused, called_policy, called_read_whole, called_refused, called_read_faults, called_write_faults}
+use Rattle.nfp_run.proofs.CallCauses.{called_names, called_usage_always, called_note_fault, called_attached, called_report_behind, called_graph_refused, called_policy, called_read_whole, called_refused, called_read_faults, called_write_faults}
 use Rattle.nfp_run.proofs.call.nfp.Goals as goal
 
 pub returns-clause-answers : goal.returns-clause-answers
@@ -48,6 +48,10 @@ returns-clause-note_fault g c = called_note_fault (command_of (map string_bytes 
 
 pub returns-clause-attached : goal.returns-clause-attached
 returns-clause-attached g c = called_attached (command_of (map string_bytes c.args.words.now)) (g.D.Desk.slots c.args.desk.now) (g.D.Desk.slots c.run_words-ending.new.desk) (g.D.Desk.slots c.put_note.new.desk) c.run_words-ending.result c.put_note.result
+    (record { ran = c.run_words-ending.ensures.ran; notes = c.put_note.ensures.notes; beside = c.put_note.ensures.others })
+
+pub returns-clause-report_behind : goal.returns-clause-report_behind
+returns-clause-report_behind g c = called_report_behind (command_of (map string_bytes c.args.words.now)) (g.D.Desk.slots c.args.desk.now) (g.D.Desk.slots c.run_words-ending.new.desk) (g.D.Desk.slots c.put_note.new.desk) c.run_words-ending.result c.put_note.result
     (record { ran = c.run_words-ending.ensures.ran; notes = c.put_note.ensures.notes; beside = c.put_note.ensures.others })
 
 pub returns-clause-policy : goal.returns-clause-policy

@@ -15,6 +15,7 @@ returns-in-Ok-Run g c = record {
         within = c.run.ensures.within;
         names_are = c.run.ensures.names;
         attached = c.run.ensures.attached;
+        report_behind = c.run.ensures.report_behind;
         note_stays = c.run.ensures.note_stays;
         usage = λ fault x. absurd (c.run.ensures.no_usage fault x);
         usage_always = λ fault x. absurd cc;
