@@ -1,4 +1,4 @@
--- Believed: the stages in which the pieces of a chain run, beside those that its plan shows.
+-- For proofs: the stages in which the pieces of a chain run, beside those that its plan shows.
 use Rattle.std.specs.Prelude.{ℕ, List, if◌then◌else◌, Option, Some, None}
 use Rattle.std.specs.List.{list_any}
 use Rattle.graph_compile.specs.declared.graph.Stage.{Stage}
