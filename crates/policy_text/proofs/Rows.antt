@@ -5,7 +5,7 @@ use Rattle.std.specs.Str.{all_scalars}
 use Rattle.std.specs.Str.Lossy.{utf8_valid_len}
 use Rattle.std.proofs.lemmas.Str.{utf8_valid_len-IsUtf8}
 use Rattle.action_profile.specs.declared.kind.Kind.TheVariants.{Firewall, Monitor, Nat}
-use Rattle.policy_text.specs.declared.clause.Clause.TheVariants.{Src, Dst, Src6, Sport, Dport, Proto, TagId}
+use Rattle.policy_text.specs.declared.clause.Clause.TheVariants.{Src, Dst, Src6, Sport, Dport, Proto, TagId, Version4, Version6, Flags}
 use Rattle.policy_text.specs.declared.fault.TextFault.TheVariants.{Syntax, UnknownKind, DuplicateName, UnknownName, TooManyFunctions, TooManyChains, TooManyRules, BadVersionLine}
 use Rattle.policy_text.specs.declared.policy.Statement.TheVariants.{Order, Priority, First, Last}
 use Rattle.policy_text.specs.Addresses6.{address6_of, prefix6_of}
@@ -269,3 +269,34 @@ source_twice = refl
 destination_of_neither : clauses_of (codes "src" ∷ codes "::1" ∷ codes "dst" ∷ codes "1.2.3.4.5" ∷ []) ≡ Err 3
 unfolding address6_of
 destination_of_neither = refl
+
+-- versions, and flags: 2 is the bit of SYN, 16 that of ACK; a word that leads a clause ends them
+version_and_flags : clauses_of (codes "flags" ∷ codes "syn" ∷ codes "!ack" ∷ codes "version" ∷ codes "4" ∷ codes "tag" ∷ codes "5" ∷ []) ≡ Ok (Flags 18 2 ∷ Version4 ∷ TagId 5 ∷ [])
+version_and_flags = refl
+
+flags_at_the_end : clauses_of (codes "version" ∷ codes "6" ∷ codes "flags" ∷ codes "!urg" ∷ codes "fin" ∷ codes "rst" ∷ []) ≡ Ok (Version6 ∷ Flags 37 5 ∷ [])
+flags_at_the_end = refl
+
+no_flag : clauses_of (codes "flags" ∷ []) ≡ Err 1
+no_flag = refl
+
+clause_for_a_flag : clauses_of (codes "flags" ∷ codes "src" ∷ codes "10.0.0.9" ∷ []) ≡ Err 1
+clause_for_a_flag = refl
+
+flag_twice : clauses_of (codes "flags" ∷ codes "syn" ∷ codes "ack" ∷ codes "!syn" ∷ []) ≡ Err 3
+flag_twice = refl
+
+other_flag : clauses_of (codes "flags" ∷ codes "syn" ∷ codes "ece" ∷ []) ≡ Err 2
+other_flag = refl
+
+flags_twice : clauses_of (codes "flags" ∷ codes "syn" ∷ codes "flags" ∷ codes "ack" ∷ []) ≡ Err 2
+flags_twice = refl
+
+flag_of_no_flags : clauses_of (codes "version" ∷ codes "4" ∷ codes "syn" ∷ []) ≡ Err 2
+flag_of_no_flags = refl
+
+version_5 : clauses_of (codes "version" ∷ codes "5" ∷ []) ≡ Err 1
+version_5 = refl
+
+version_04 : clauses_of (codes "version" ∷ codes "04" ∷ []) ≡ Err 1
+version_04 = refl

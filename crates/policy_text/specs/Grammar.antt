@@ -1,5 +1,5 @@
 -- Believed: the policy language: what each line adds to the policy so far, or its first fault.
-use Rattle.std.specs.Prelude.{ℕ, ◌-◌, List, [], ◌∷◌, ◌++◌, length, map, drop, count_by, position, sum_by, Bool, false, if◌then◌else◌, ◌==◌, ◌&&◌, not, nat_lt, slice_index_or, slice_get, is_some, Option, Result, Ok, Err, codes}
+use Rattle.std.specs.Prelude.{ℕ, List, [], ◌∷◌, ◌++◌, length, map, drop, count_by, position, sum_by, Bool, false, if◌then◌else◌, ◌==◌, ◌&&◌, not, nat_lt, slice_index_or, is_some, Option, Result, Ok, Err, codes}
 use Rattle.std.specs.Option.{option_map, option_map_or}
 use Rattle.std.specs.List.{list_any}
 use Rattle.std.specs.Str.{bytes_eq}
@@ -18,18 +18,10 @@ use Rattle.policy_text.specs.declared.policy.Statement.{Statement}
 use Rattle.policy_text.specs.declared.policy.Statement.TheVariants.{Order, Priority, First, Last}
 use Rattle.policy_text.specs.Clauses.{clauses_from}
 use Rattle.policy_text.specs.Forms.{misfit_from}
+pub use Rattle.policy_text.specs.Latest.{latest, change_latest}
 use Rattle.policy_text.specs.Lines.{PlacedWord, Line, lines_of, word_at, column_of}
 use Rattle.policy_text.specs.Steps.{◌>>=◌, demand, some_or, unless}
 use Rattle.policy_text.specs.Values.{is_name}
-
--- the last of a list, and the list with its last one changed
-abbrev pub latest : {A : Type 0} → List A → Option A
-latest xs = slice_get xs (length xs - 1)
-
-abbrev pub change_latest : {A : Type 0} → (A → A) → List A → List A
-change_latest f [] = []
-change_latest f (x ∷ []) = f x ∷ []
-change_latest f (x ∷ y ∷ ys) = x ∷ change_latest f (y ∷ ys)
 
 -- the word at this place doesn't fit
 abbrev pub syntax_at : Line → ℕ → TextFault

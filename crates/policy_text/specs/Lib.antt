@@ -4,9 +4,11 @@ pub mod Clauses
 pub mod Forms
 pub mod Grammar
 pub mod Groups
+pub mod Latest
 pub mod Lines
 pub mod Meeting
 pub mod Names
+pub mod ReadingOn
 pub mod Soundness
 pub mod Steps
 pub mod Values

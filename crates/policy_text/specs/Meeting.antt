@@ -1,9 +1,9 @@
 -- Believed: which packets meet a clause.
-use Rattle.std.specs.Prelude.{ℕ, ◌-◌, ◌/◌, ◌^◌, Bool, true, false, ◌==◌, ◌&&◌, nat_le}
+use Rattle.std.specs.Prelude.{ℕ, ◌-◌, ◌/◌, ◌^◌, Bool, true, false, ◌==◌, ◌&&◌, nat_le, bit_and, Option, is_some}
 use Rattle.std.specs.Option.{option_map_or}
 use Rattle.std.specs.List.{list_all}
 use Rattle.policy_text.specs.declared.clause.Clause.{Clause}
-use Rattle.policy_text.specs.declared.clause.Clause.TheVariants.{Src, Dst, Src6, Dst6, Sport, Dport, Proto, TagId, NoTag}
+use Rattle.policy_text.specs.declared.clause.Clause.TheVariants.{Src, Dst, Src6, Dst6, Sport, Dport, Proto, TagId, NoTag, Version4, Version6, Flags}
 use Rattle.policy_text.specs.declared.clause.Match.{Match}
 use Rattle.policy_text.specs.declared.seen.Seen.{Seen}
 use Rattle.policy_text.specs.declared.seen.TagSeen.{TagSeen}
@@ -32,6 +32,13 @@ abbrev pub is_bare : TagSeen → Bool
 is_bare Bare = true
 is_bare tag = false
 
+abbrev pub is_type : ℕ → Option ℕ → Bool
+is_type number ether_type = option_map_or (λ t. t == number) ether_type false
+
+-- of TCP's control bits that are in the mask (RFC 793, 3.1), exactly these are 1
+abbrev pub has_bits : ℕ → ℕ → ℕ → Bool
+has_bits mask set flags = bit_and flags mask == set
+
 -- A clause on an absent value isn't met: so a packet of one version of IP doesn't meet a prefix of the other.
 abbrev pub is_met : Seen → Clause → Bool
 is_met seen (Src prefix bits) = option_map_or (is_within prefix bits) seen.src false
@@ -43,6 +50,9 @@ is_met seen (Dport low high) = option_map_or (is_between low high) seen.dport fa
 is_met seen (Proto p) = option_map_or (λ x. x == p) seen.proto false
 is_met seen (TagId id) = has_id id seen.tag
 is_met seen NoTag = is_bare seen.tag
+is_met seen Version4 = is_type 0x0800 seen.ether_type && is_some seen.src
+is_met seen Version6 = is_type 0x86DD seen.ether_type && is_some seen.src6
+is_met seen (Flags mask set) = option_map_or (has_bits mask set) seen.tcp_flags false
 
 -- every clause is met
 abbrev pub is_fitting : Match → Seen → Bool

@@ -29,4 +29,11 @@ pub enum Clause {
     TagId(u16),
     /// No tag.
     NoTag,
+    /// A packet of IPv4.
+    Version4,
+    /// A packet of IPv6.
+    Version6,
+    /// TCP's control bits that are looked at, and those of them that have to be 1 (RFC 793, 3.1). The others of them
+    /// have to be 0.
+    Flags(u8, u8),
 }

@@ -1,9 +1,10 @@
 //! Reads clauses from words.
 
-ghost use Rattle.std.specs.Prelude.{◌≡◌, ◌+◌, ◌^◌, ◌<◌, [], length, map, IfOk, Option};
+ghost use Rattle.std.specs.Prelude.{◌≡◌, ◌+◌, ◌^◌, ◌<◌, ◌≤◌, [], length, map, IfOk, OnOk, Option};
 ghost use Rattle.std.specs.List.{list_any};
 ghost use Rattle.std.specs.Str.{bytes_eq};
-ghost use Rattle.policy_text.specs.Clauses.{lead_of, leads, source_of, destination_of, protocol_of, tag_of, clause_of, may_lead, clauses_from, clauses_of, ReadsMatch};
+ghost use Rattle.policy_text.specs.Clauses.{lead_of, leads, source_of, destination_of, protocol_of, tag_of, version_of, bit_of, is_negated, flag_of, with_flag, more_flags, clause_of, may_lead, clauses_from, clauses_of, ReadsMatch};
+ghost use Rattle.policy_text.specs.ReadingOn.{ReadsOn, GivesMore};
 
 use crate::clause::{Clause, Match};
 use crate::fault::MatchFault;
@@ -13,9 +14,9 @@ use crate::value6::prefix6;
 use item_list::Items;
 use std::alloc::{AllocError, Global};
 
-/// Reads clauses, each of a leading word and a value. Each leading word may occur once, and an empty list of words is a
-/// fault. The fault holds the place, counted from 0, of the first word that doesn't fit, or the number of words if one
-/// is missing.
+/// Reads clauses, each of a leading word and a value, or of a leading word and one or more flags. Each leading word may
+/// occur once, and an empty list of words has no clauses. The fault holds the place, counted from 0, of the first word
+/// that doesn't fit, or the number of words if one is missing.
 pub fn read_match(alloc: Global, words: &[Word]) -> Result<Match, MatchFault>
     ensures { ReadsMatch result (clauses_of words.now) }
 {
@@ -45,21 +46,65 @@ pub(crate) fn read_clauses(
     let mut clauses = Vec::new(alloc);
     let mut at = 0;
     'clauses: while at < words.len() {
-        if !may_lead(&clauses, words[at]) {
-            return Err(MatchFault::BadWord(place + at));
-        }
-        if at + 1 == words.len() {
-            return Err(MatchFault::BadWord(place + at + 1));
-        }
-        let Some(clause) = clause_of(words[at], words[at + 1]) else {
-            return Err(MatchFault::BadWord(place + at + 1));
-        };
-        clauses.push(clause)?;
-        at += 2;
+        at += read_on(&mut clauses, place + at, &words[at..])?;
     }
     Ok(Match {
         clauses: Items::new(clauses),
     })
+}
+
+// Reads one more clause, or one more flag of the last clause, from words of which the first has this place. Returns the
+// number of words that it took.
+fn read_on(clauses: &mut Vec<Clause>, place: usize, words: &[&[u8]]) -> Result<usize, MatchFault>
+    requires some { 0 < length words.now }
+    requires short { place + length words.now < 2 ^ 63 }
+    ensures progress { IfOk result (λ n. 0 < n) }
+    ensures within { IfOk result (λ n. n ≤ length words.now) }
+    ensures read { ReadsOn clauses.old.items clauses.new.items place (map (λ w. w.now) words.now) result }
+{
+    if !may_lead(clauses, words[0]) {
+        return add_flag(clauses, place, words[0]);
+    }
+    if words.len() == 1 {
+        return Err(MatchFault::BadWord(place + 1));
+    }
+    let Some(clause) = clause_of(words[0], words[1]) else {
+        return Err(MatchFault::BadWord(place + 1));
+    };
+    clauses.push(clause)?;
+    Ok(2)
+}
+
+// Adds a flag to the last clause, from the word at this place. Returns the number of words that it took.
+#[tactic(auto, using(crate::proofs::Latest::set_latest))]
+fn add_flag(clauses: &mut Vec<Clause>, place: usize, word: &[u8]) -> Result<usize, MatchFault>
+    ensures one { IfOk result (λ n. n ≡ 1) }
+    ensures more { GivesMore clauses.new.items place (more_flags clauses.old.items word.now) result }
+{
+    let Some(last) = clauses.last() else {
+        return Err(MatchFault::BadWord(place));
+    };
+    let Some(more) = with_flag(word, *last) else {
+        return Err(MatchFault::BadWord(place));
+    };
+    let end = clauses.len() - 1;
+    clauses[end] = more;
+    Ok(1)
+}
+
+// Flags with one more, whose bit none of them has.
+fn with_flag(word: &[u8], clause: Clause) -> Option<Clause>
+    ensures { result ≡ with_flag word.now clause }
+{
+    let Clause::Flags(mask, set) = clause else {
+        return None;
+    };
+    let (bit, value) = flag_of(word)?;
+    if mask & bit == 0 {
+        Some(Clause::Flags(mask | bit, set | value))
+    } else {
+        None
+    }
 }
 
 // May the word lead a clause after these?
@@ -78,6 +123,8 @@ fn is_lead(word: &[u8]) -> bool
         || word == b"dport".as_slice()
         || word == b"proto".as_slice()
         || word == b"tag".as_slice()
+        || word == b"version".as_slice()
+        || word == b"flags".as_slice()
 }
 
 fn leads_one(clauses: &[Clause], word: &[u8]) -> bool
@@ -99,10 +146,13 @@ fn lead_of(clause: Clause) -> &'static [u8]
         Clause::Proto(_) => b"proto",
         Clause::TagId(_) => b"tag",
         Clause::NoTag => b"tag",
+        Clause::Version4 => b"version",
+        Clause::Version6 => b"version",
+        Clause::Flags(_, _) => b"flags",
     }
 }
 
-/// The clause of a leading word and its value, if they form one.
+/// The clause of a leading word and its value, if they form one. The value of flags is the first of them.
 pub fn clause_of(lead: &[u8], value: &[u8]) -> Option<Clause>
     ensures { result ≡ clause_of lead.now value.now }
 {
@@ -118,6 +168,10 @@ pub fn clause_of(lead: &[u8], value: &[u8]) -> Option<Clause>
         protocol_of(value).map(Clause::Proto)
     } else if lead == b"tag".as_slice() {
         tag_of(value)
+    } else if lead == b"version".as_slice() {
+        version_of(value)
+    } else if lead == b"flags".as_slice() {
+        flag_of(value).map(|(mask, set)| Clause::Flags(mask, set))
     } else {
         None
     }
@@ -163,4 +217,55 @@ fn tag_of(value: &[u8]) -> Option<Clause>
     }
     let id = number(value, 20, 4095)?;
     Some(Clause::TagId(id as u16))
+}
+
+fn version_of(value: &[u8]) -> Option<Clause>
+    ensures { result ≡ version_of value.now }
+{
+    if value == b"4".as_slice() {
+        Some(Clause::Version4)
+    } else if value == b"6".as_slice() {
+        Some(Clause::Version6)
+    } else {
+        None
+    }
+}
+
+// A flag's bit, and the value that the bit has to have.
+fn flag_of(word: &[u8]) -> Option<(u8, u8)>
+    ensures { result ≡ flag_of word.now }
+{
+    if is_negated(word) {
+        let bit = bit_of(&word[1..])?;
+        Some((bit, 0))
+    } else {
+        let bit = bit_of(word)?;
+        Some((bit, bit))
+    }
+}
+
+fn is_negated(word: &[u8]) -> bool
+    ensures { result ≡ is_negated word.now }
+{
+    !word.is_empty() && word[0] == b'!'
+}
+
+fn bit_of(word: &[u8]) -> Option<u8>
+    ensures { result ≡ bit_of word.now }
+{
+    if word == b"fin".as_slice() {
+        Some(1)
+    } else if word == b"syn".as_slice() {
+        Some(2)
+    } else if word == b"rst".as_slice() {
+        Some(4)
+    } else if word == b"psh".as_slice() {
+        Some(8)
+    } else if word == b"ack".as_slice() {
+        Some(16)
+    } else if word == b"urg".as_slice() {
+        Some(32)
+    } else {
+        None
+    }
 }

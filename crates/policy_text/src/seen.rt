@@ -1,7 +1,7 @@
 //! The values of a packet at which clauses look.
 
 ghost use Rattle.std.specs.Prelude.{◌≡◌};
-ghost use Rattle.policy_text.specs.Meeting.{first_bits, is_within, is_within6, is_between, has_id, is_bare, is_met, is_fitting};
+ghost use Rattle.policy_text.specs.Meeting.{first_bits, is_within, is_within6, is_between, has_id, is_bare, is_type, has_bits, is_met, is_fitting};
 
 use crate::clause::{Clause, Match};
 
@@ -28,6 +28,10 @@ pub struct Seen {
     pub sport: Option<u16>,
     pub dport: Option<u16>,
     pub proto: Option<u8>,
+    /// The EtherType (IEEE 802.3, 3.2.6).
+    pub ether_type: Option<u16>,
+    /// TCP's byte of control bits (RFC 793, 3.1).
+    pub tcp_flags: Option<u8>,
 }
 
 /// Does a packet meet every clause? A clause on an absent value isn't met. A prefix length above the number of the
@@ -51,6 +55,9 @@ fn is_met(seen: &Seen, clause: &Clause) -> bool
         Clause::Proto(protocol) => seen.proto.map_or(false, |p| p == *protocol),
         Clause::TagId(id) => has_id(*id, seen.tag),
         Clause::NoTag => is_bare(seen.tag),
+        Clause::Version4 => is_type(0x0800, seen.ether_type) && seen.src.is_some(),
+        Clause::Version6 => is_type(0x86DD, seen.ether_type) && seen.src6.is_some(),
+        Clause::Flags(mask, set) => seen.tcp_flags.map_or(false, |f| has_bits(*mask, *set, f)),
     }
 }
 
@@ -109,6 +116,19 @@ fn has_id(id: u16, tag: TagSeen) -> bool
         TagSeen::Id(n) => n == id,
         _ => false,
     }
+}
+
+fn is_type(number: u16, ether_type: Option<u16>) -> bool
+    ensures { result ≡ is_type number ether_type }
+{
+    ether_type.map_or(false, |t| t == number)
+}
+
+// Of the bits of the mask, are exactly these 1?
+fn has_bits(mask: u8, set: u8, flags: u8) -> bool
+    ensures { result ≡ has_bits mask set flags }
+{
+    flags & mask == set
 }
 
 fn is_bare(tag: TagSeen) -> bool
