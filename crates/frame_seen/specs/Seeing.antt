@@ -5,7 +5,9 @@ use Rattle.std.specs.Net.Addr.{segments_of}
 use Rattle.std.specs.declared.net.ip_addr.IpAddr.{IpAddr}
 use Rattle.std.specs.declared.net.ip_addr.IpAddr.TheVariants.{V4, V6}
 use Rattle.byteorder.specs.Endian.{big_number}
-use Rattle.packet_fields.specs.Fields.{value, layout_of}
+use Rattle.packet_fields.specs.Fields.{value, ether_type}
+use Rattle.packet_fields.specs.Frames.{packet}
+use Rattle.packet_fields.specs.Packets.{protocol, control_bits}
 use Rattle.packet_fields.specs.declared.field.Field.{Field}
 use Rattle.packet_fields.specs.declared.field.Field.TheVariants.{Tag, SrcIp, DstIp, SrcPort, DstPort}
 use Rattle.policy_text.specs.declared.seen.Seen.{Seen}
@@ -38,9 +40,9 @@ source_address values = option_and_then ip_address_of (values SrcIp)
 abbrev pub destination_address : (Field → Option (List ℕ)) → Option IpAddr
 destination_address values = option_and_then ip_address_of (values DstIp)
 
--- what is seen if the fields have these values, by the protocol of the IP header
-abbrev pub seen_by : (Field → Option (List ℕ)) → Option ℕ → Seen
-seen_by values protocol = record {
+-- what is seen if the fields have these values, by the EtherType, the protocol of the IP header, and TCP's control bits
+abbrev pub seen_with : (Field → Option (List ℕ)) → Option ℕ → Option ℕ → Option ℕ → Seen
+seen_with values ether_type proto flags = record {
   tag = option_map_or outermost (values Tag) Absent;
   src = option_and_then (address_of 4) (values SrcIp);
   dst = option_and_then (address_of 4) (values DstIp);
@@ -48,9 +50,15 @@ seen_by values protocol = record {
   dst6 = option_and_then (address_of 16) (values DstIp);
   sport = option_map (big_number 2) (values SrcPort);
   dport = option_map (big_number 2) (values DstPort);
-  proto = protocol;
+  proto = proto;
+  ether_type = ether_type;
+  tcp_flags = flags;
 }
+
+-- what is seen by the protocol alone
+abbrev pub seen_by : (Field → Option (List ℕ)) → Option ℕ → Seen
+seen_by values proto = seen_with values None proto None
 
 -- what is seen of a frame
 abbrev pub seen_of : List ℕ → Seen
-seen_of frame = seen_by (λ f. value f frame) (layout_of frame).proto
+seen_of frame = seen_with (λ f. value f frame) (ether_type frame) (protocol (packet frame)) (control_bits (packet frame))

@@ -28,6 +28,8 @@ pub fn seen(frame: &[u8]) -> Seen
         sport: seen_port(outline.get(Field::SrcPort, frame)),
         dport: seen_port(outline.get(Field::DstPort, frame)),
         proto: outline.protocol(frame),
+        ether_type: outline.ether_type(frame),
+        tcp_flags: outline.control_bits(frame),
     }
 }
 
