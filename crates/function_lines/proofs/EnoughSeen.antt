@@ -1,12 +1,12 @@
 -- A view of a packet that shows all that the rules look at meets the same rule as the packet.
 use Rattle.std.proofs.Common.{◌≡◌, List, [], ◌∷◌, Bool, true, false, ◌&&◌, refl, ap, subst}
-use Rattle.std.specs.Prelude.{◌==◌, Some, cond}
+use Rattle.std.specs.Prelude.{◌==◌, Some, is_some, cond}
 use Rattle.std.specs.List.{list_all, list_any}
 use Rattle.std.specs.Option.{option_map_or}
 use Rattle.std.proofs.lemmas.Bool.{or_left, or_right}
-use Rattle.policy_text.specs.Meeting.{is_within, is_within6, is_between, has_id, is_bare, is_met}
+use Rattle.policy_text.specs.Meeting.{is_within, is_within6, is_between, has_id, is_bare, is_type, has_bits, is_met}
 use Rattle.policy_text.specs.declared.clause.Clause.{Clause}
-use Rattle.policy_text.specs.declared.clause.Clause.TheVariants.{Src, Dst, Src6, Dst6, Sport, Dport, Proto, TagId, NoTag}
+use Rattle.policy_text.specs.declared.clause.Clause.TheVariants.{Src, Dst, Src6, Dst6, Sport, Dport, Proto, TagId, NoTag, Version4, Version6, Flags}
 use Rattle.policy_text.specs.declared.clause.Match.{Match}
 use Rattle.policy_text.specs.declared.seen.Seen.{Seen}
 use Rattle.function_lines.specs.Asking.{looks_at, fit_asks, rules_ask, asked_of, Shows}
@@ -37,6 +37,8 @@ module _ (full seen : Seen) where
     sport = λ h. s.sport (within values.SourcePort h);
     dport = λ h. s.dport (within values.DestinationPort h);
     proto = s.proto;
+    ether_type = s.ether_type;
+    tcp_flags = s.tcp_flags;
   }
 
   clause_same : (c : Clause) → Shows (asked_by (λ v. looks_at v c)) full seen → is_met seen c ≡ is_met full c
@@ -49,6 +51,9 @@ module _ (full seen : Seen) where
   clause_same (Proto p) s = ap (λ x. option_map_or (λ y. y == p) x false) s.proto
   clause_same (TagId id) s = ap (has_id id) (s.tag refl)
   clause_same NoTag s = ap is_bare (s.tag refl)
+  clause_same Version4 s = λ i. is_type 0x0800 (s.ether_type i) && is_some (s.src refl i)
+  clause_same Version6 s = λ i. is_type 0x86DD (s.ether_type i) && is_some (s.src6 refl i)
+  clause_same (Flags mask set) s = ap (λ x. option_map_or (has_bits mask set) x false) s.tcp_flags
 
   clauses_same : (cs : List Clause) → Shows (asked_by (λ v. list_any (looks_at v) cs)) full seen → list_all (is_met seen) cs ≡ list_all (is_met full) cs
   clauses_same [] s = refl

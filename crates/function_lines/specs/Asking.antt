@@ -2,7 +2,7 @@
 use Rattle.std.specs.Prelude.{◌≡◌, List, Bool, true, false}
 use Rattle.std.specs.List.{list_any}
 use Rattle.policy_text.specs.declared.clause.Clause.{Clause}
-use Rattle.policy_text.specs.declared.clause.Clause.TheVariants.{Src, Dst, Src6, Dst6, Sport, Dport, TagId, NoTag}
+use Rattle.policy_text.specs.declared.clause.Clause.TheVariants.{Src, Dst, Src6, Dst6, Sport, Dport, TagId, NoTag, Version4, Version6}
 use Rattle.policy_text.specs.declared.clause.Match.{Match}
 use Rattle.policy_text.specs.declared.seen.Seen.{Seen}
 use Rattle.function_lines.specs.declared.asking.Asked.{Asked}
@@ -15,6 +15,8 @@ looks_at values.Tag (TagId id) = true
 looks_at values.Tag NoTag = true
 looks_at values.Source (Src prefix bits) = true
 looks_at values.Source (Src6 prefix bits) = true
+looks_at values.Source Version4 = true
+looks_at values.Source Version6 = true
 looks_at values.Destination (Dst prefix bits) = true
 looks_at values.Destination (Dst6 prefix bits) = true
 looks_at values.SourcePort (Sport low high) = true
@@ -38,7 +40,7 @@ asked_of fit rules = record {
   destination_port = rules_ask fit values.DestinationPort rules;
 }
 
--- what is seen has the values that the rules look at, and the protocol
+-- what is seen has the values that the rules look at, and those that no function writes
 pub record Shows (asked : Asked) (full seen : Seen) : Type 0 where
   pub tag : asked.tag ≡ true → seen.tag ≡ full.tag
   pub src : asked.source ≡ true → seen.src ≡ full.src
@@ -48,3 +50,5 @@ pub record Shows (asked : Asked) (full seen : Seen) : Type 0 where
   pub sport : asked.source_port ≡ true → seen.sport ≡ full.sport
   pub dport : asked.destination_port ≡ true → seen.dport ≡ full.dport
   pub proto : seen.proto ≡ full.proto
+  pub ether_type : seen.ether_type ≡ full.ether_type
+  pub tcp_flags : seen.tcp_flags ≡ full.tcp_flags

@@ -9,7 +9,7 @@ use policy_text::{Clause, Match, Seen};
 use std::alloc::{AllocError, Global};
 use std::marker::Model;
 
-/// A value of a packet at which clauses look, besides its protocol.
+/// A value of a packet at which clauses look, besides those that no function writes.
 #[derive(Clone, Copy)]
 enum Value {
     Tag,
@@ -19,8 +19,8 @@ enum Value {
     DestinationPort,
 }
 
-/// The values of a packet at which some clause of some rule looks, besides the protocol. An address may be of either
-/// version of IP.
+/// The values of a packet at which some clause of some rule looks, besides those that no function writes: the EtherType,
+/// the protocol and TCP's control bits. An address may be of either version of IP.
 #[derive(Clone, Copy, Debug)]
 pub struct Asked {
     pub tag: bool,
@@ -131,10 +131,12 @@ fn looks_at(value: Value, clause: Clause) -> bool
 {
     match clause {
         Clause::TagId(_) | Clause::NoTag => matches!(value, Value::Tag),
-        Clause::Src(..) | Clause::Src6(..) => matches!(value, Value::Source),
+        Clause::Src(..) | Clause::Src6(..) | Clause::Version4 | Clause::Version6 => {
+            matches!(value, Value::Source)
+        }
         Clause::Dst(..) | Clause::Dst6(..) => matches!(value, Value::Destination),
         Clause::Sport(..) => matches!(value, Value::SourcePort),
         Clause::Dport(..) => matches!(value, Value::DestinationPort),
-        Clause::Proto(_) => false,
+        Clause::Proto(_) | Clause::Flags(..) => false,
     }
 }
