@@ -7,7 +7,7 @@ use Rattle.std.specs.Int.Bits.{and_zero_r}
 use Rattle.std.proofs.lemmas.Bool.{true≢false, and_parts, and_from, eq-eqb, eqb-true, false_from_ne_true, both_ways}
 use Rattle.std.proofs.lemmas.Nat.Bits.{and_high}
 use Rattle.policy_text.specs.declared.clause.Clause.{Clause}
-use Rattle.policy_text.specs.declared.clause.Clause.TheVariants.{Src, Dst, Src6, Dst6, Sport, Dport, Proto, TagId, NoTag}
+use Rattle.policy_text.specs.declared.clause.Clause.TheVariants.{Src, Dst, Src6, Dst6, Sport, Dport, Proto, TagId, NoTag, Version4, Version6, Flags}
 use Rattle.policy_text.specs.declared.clause.Match.{Match}
 use Rattle.policy_text.specs.declared.seen.Seen.{Seen}
 use Rattle.policy_text.specs.Meeting.{is_within, is_met, is_fitting}
@@ -47,6 +47,9 @@ one_more guard (Dport low high) seen h met = h
 one_more guard (Proto p) seen h met = h
 one_more guard (TagId id) seen h met = h
 one_more guard NoTag seen h met = h
+one_more guard Version4 seen h met = h
+one_more guard Version6 seen h met = h
+one_more guard (Flags mask set) seen h met = h
 
 all_more : (clauses : List Clause) (guard : Guard) (seen : Seen) → lets guard seen ≡ true → list_all (is_met seen) clauses ≡ true → lets (fold with_clause guard clauses) seen ≡ true
 all_more [] guard seen h met = h

@@ -1,2 +1,4 @@
+pub mod Deciding
+pub mod FirewallRows
 pub mod Guards
 pub mod SignatureRows

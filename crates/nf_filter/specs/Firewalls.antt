@@ -3,10 +3,11 @@ use Rattle.std.specs.Prelude.{List, [], ◌∷◌, ◌++◌, Bool, true, fold}
 use Rattle.std.specs.Option.{option_map_or}
 use Rattle.policy_text.specs.declared.policy.FunctionDecl.{FunctionDecl}
 use Rattle.policy_text.specs.declared.seen.Seen.{Seen}
-use Rattle.frame_seen.specs.Seeing.{seen_by}
+use Rattle.frame_seen.specs.Seeing.{seen_with}
 use Rattle.action_profile.specs.Profiles.{profile_of}
 use Rattle.action_profile.specs.declared.kind.Kind.TheVariants as kinds
-use Rattle.chain_walk.specs.Shown.{Shown}
+use Rattle.chain_walk.specs.Shown.{Shown, Values}
+use Rattle.chain_walk.specs.declared.fixed.Fixed.{Fixed}
 use Rattle.chain_walk.specs.Step.{Step, Behaviour, nothing}
 use Rattle.function_lines.specs.KindLines.{said_by}
 use Rattle.function_lines.specs.Rules.{first_met}
@@ -37,9 +38,13 @@ firewall_of decl = firewall_by (said_by firewall_lines decl.settings)
 unfoldable pub passes : Firewall → Seen → Bool
 passes f seen = option_map_or (λ rule. rule.allow) (first_met (λ rule. rule.fit) seen f.rules) f.default
 
+-- what clauses see of a packet with these values
+abbrev pub all_seen : Values → Fixed → Seen
+all_seen values fixed = seen_with values fixed.ether_type fixed.proto fixed.tcp_flags
+
 -- a firewall judges by what it is shown, writes nothing, and stays unchanged
 abbrev pub firewall_step : Firewall → Shown → Step Firewall
-firewall_step f shown = record { after = f; verdict = verdict_by (passes f (seen_by shown.values shown.fixed.proto)); written = nothing }
+firewall_step f shown = record { after = f; verdict = verdict_by (passes f (all_seen shown.values shown.fixed)); written = nothing }
 
 -- how firewalls behave
 abbrev pub firewall_behaviour : Behaviour Firewall

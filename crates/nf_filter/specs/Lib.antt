@@ -1,3 +1,4 @@
+pub mod Deciding
 pub mod Firewalls
 pub mod Guards
 pub mod FirewallLaws

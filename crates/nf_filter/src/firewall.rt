@@ -105,7 +105,7 @@ impl Firewall {
     ghost use Rattle.std.specs.Prelude.{◌≡◌, Ok, true, is_ok};
     ghost use Rattle.action_profile.specs.Profiles.{profile_of};
     ghost use Rattle.action_profile.specs.declared.kind.Kind.{Kind};
-    ghost use Rattle.frame_seen.specs.Seeing.{seen_by};
+    ghost use Rattle.nf_filter.specs.Firewalls.{all_seen};
     ghost use Rattle.packet_version.specs.Views.{seen_values, viewed, wrote_all};
     ghost use Rattle.nf_filter.specs.Firewalls.{firewall_behaviour, passes};
 
@@ -125,7 +125,7 @@ impl Firewall {
     #[tactic(auto, unfolding(crate::specs::Firewalls::passes))]
     fn passes(&self, view: &View) -> bool
         requires profile { view.now.profile ≡ profile_of Kind.Firewall }
-        ensures { result ≡ passes self.now (seen_by (seen_values view.now) view.now.version.fixed.proto) }
+        ensures { result ≡ passes self.now (all_seen (seen_values view.now) view.now.version.fixed) }
     {
         let asked = self.rules.asked();
         self.judge(&seen_in(view, asked))
@@ -145,7 +145,7 @@ ghost use Rattle.std.specs.Option.{option_copied};
 ghost use Rattle.packet_fields.specs.Fields.{IsLengthOf};
 ghost use Rattle.action_profile.specs.Profiles.{profile_of, reads_of};
 ghost use Rattle.action_profile.specs.declared.kind.Kind.{Kind};
-ghost use Rattle.frame_seen.specs.Seeing.{seen_by};
+ghost use Rattle.nf_filter.specs.Firewalls.{all_seen};
 ghost use Rattle.function_lines.specs.Asking.{Shows};
 ghost use Rattle.function_lines.specs.Rules.{first_met};
 ghost use Rattle.packet_version.specs.Views.{seen_values};
@@ -160,7 +160,7 @@ fn first_met<'a>(rules: &'a [GuardedRule], seen: &Seen) -> Option<&'a GuardedRul
 /// The values of the packet of a view that these clauses need.
 fn seen_in(view: &View, asked: Asked) -> Seen
     requires profile { view.now.profile ≡ profile_of Kind.Firewall }
-    ensures { Shows asked (seen_by (seen_values view.now) view.now.version.fixed.proto) result }
+    ensures { Shows asked (all_seen (seen_values view.now) view.now.version.fixed) result }
 {
     let source = asked_value(view, asked.source, Field::SrcIp);
     let destination = asked_value(view, asked.destination, Field::DstIp);
@@ -173,6 +173,8 @@ fn seen_in(view: &View, asked: Asked) -> Seen
         sport: seen_port(asked_value(view, asked.source_port, Field::SrcPort)),
         dport: seen_port(asked_value(view, asked.destination_port, Field::DstPort)),
         proto: view.proto(),
+        ether_type: view.ether_type(),
+        tcp_flags: view.tcp_flags(),
     }
 }
 

@@ -1,14 +1,15 @@
 //! Network functions that decide whether a packet passes, and change nothing of it.
 //!
-//! A [`Firewall`] is a list of rules, each with clauses on a packet's addresses, ports, protocol and outermost VLAN id
-//! (RFC 791, RFC 8200, RFC 793, RFC 768, IEEE 802.1Q). The first rule whose clauses are all met decides; if there is
+//! A [`Firewall`] is a list of rules, each with clauses on a packet's version of IP, addresses, ports, protocol, TCP
+//! flags and outermost VLAN id (RFC 791, RFC 8200, RFC 793, RFC 768, IEEE 802.1Q). The first rule whose clauses are all met decides; if there is
 //! none, the default decides, which is to allow unless it is set otherwise. [`Firewall::build`] makes it of the lines
 //! that an operator wrote, or returns the least line that is refused. What a rule demands of IPv4 addresses is
 //! determined then (`guard`), so that a step rules out most rules that a packet doesn't meet by two comparisons each.
 //!
 //! As a function of a chain a firewall has one meaning, `firewall_behaviour` of `specs/Firewalls.antt`: it judges by
 //! what it sees, writes nothing, and doesn't change. It sees a packet through a view of a version of it
-//! ([`Firewall::step`]). `firewall_keeps` of `specs/FirewallLaws.antt` says that it keeps to its profile.
+//! ([`Firewall::step`]). [`the_first_rule_that_is_met_decides`] says the same of a packet's fate without the step, and
+//! that rules behind the one that is met don't count. `firewall_keeps` of `specs/FirewallLaws.antt` says that it keeps to its profile.
 //!
 //! A [`Signature`] is a list of patterns, each of 1 to 256 bytes. It drops a packet exactly if one of them occurs in
 //! the packet's data, and writes nothing. The searchers of the patterns are made once, when the signature is built
@@ -24,9 +25,11 @@
 mod build;
 mod firewall;
 mod guard;
+mod laws;
 mod lines;
 mod signature;
 mod verdict;
 
 pub use firewall::{Firewall, GuardedRule, Rule};
+pub use laws::the_first_rule_that_is_met_decides;
 pub use signature::Signature;
