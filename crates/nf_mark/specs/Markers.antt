@@ -4,7 +4,7 @@ use Rattle.std.specs.Option.{option_map}
 use Rattle.packet_fields.specs.declared.field.Field.TheVariants.{Tos}
 use Rattle.policy_text.specs.declared.policy.FunctionDecl.{FunctionDecl}
 use Rattle.policy_text.specs.declared.seen.Seen.{Seen}
-use Rattle.frame_seen.specs.Seeing.{seen_by}
+use Rattle.frame_seen.specs.Seeing.{seen_with}
 use Rattle.action_profile.specs.Profiles.{profile_of}
 use Rattle.action_profile.specs.declared.kind.Kind.TheVariants as kinds
 use Rattle.chain_walk.specs.Shown.{Shown}
@@ -29,9 +29,13 @@ marker_of decl = marker_by (said_by marker_lines decl.settings)
 unfoldable pub tos_for : Marker → Seen → Option ℕ
 tos_for m seen = option_map (λ rule. rule.tos) (first_met (λ rule. rule.fit) seen m.rules)
 
+-- what clauses see of a packet that is shown so
+abbrev pub all_seen : Shown → Seen
+all_seen shown = seen_with shown.values shown.fixed.ether_type shown.fixed.proto shown.fixed.tcp_flags
+
 -- the type of service that is written to a packet that has one, none if it keeps its own
 abbrev pub new_tos : Marker → Shown → Option ℕ
-new_tos m shown = if shown.has Tos then tos_for m (seen_by shown.values shown.fixed.proto) else None
+new_tos m shown = if shown.has Tos then tos_for m (all_seen shown) else None
 
 -- The type of service is one byte, the second of the IPv4 header (RFC 791, 3.1), whose high six bits are the DSCP
 -- (RFC 2474, 3). Nothing else is written, every packet passes, and a marker stays unchanged.

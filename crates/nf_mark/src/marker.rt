@@ -104,13 +104,13 @@ impl Marker {
 ghost use Rattle.std.specs.Prelude.{◌≡◌};
 ghost use Rattle.action_profile.specs.Profiles.{profile_of};
 ghost use Rattle.action_profile.specs.declared.kind.Kind.{Kind};
-ghost use Rattle.frame_seen.specs.Seeing.{seen_by};
+ghost use Rattle.nf_mark.specs.Markers.{all_seen};
 ghost use Rattle.nf_mark.specs.Seeing.{shown_in};
 
 /// What a marker's clauses see of the packet of a view.
 fn seen_in(view: &View) -> Seen
     requires profile { view.now.profile ≡ profile_of Kind.Marker }
-    ensures { result ≡ seen_by (shown_in view.now).values view.now.version.fixed.proto }
+    ensures { result ≡ all_seen (shown_in view.now) }
 {
     let source = view.get(Field::SrcIp);
     let destination = view.get(Field::DstIp);
@@ -123,5 +123,7 @@ fn seen_in(view: &View) -> Seen
         sport: seen_port(view.get(Field::SrcPort)),
         dport: seen_port(view.get(Field::DstPort)),
         proto: view.proto(),
+        ether_type: view.ether_type(),
+        tcp_flags: view.tcp_flags(),
     }
 }

@@ -121,6 +121,8 @@ fn seen_in(view: &View) -> Seen
         sport: None,
         dport: None,
         proto: view.proto(),
+        ether_type: None,
+        tcp_flags: None,
     }
 }
 
