@@ -115,7 +115,7 @@ tame n (Some ends) =
 module _ (n : PlainNat) (tag : TagSeen) (src6 dst6 : Option ℕ) where
   -- what is done with a packet of which this is seen
   abbrev done : (proto src dst sport dport : Option ℕ) → Step PlainNat
-  done proto src dst sport dport = translated n (ends_of (record { tag = tag; src = src; dst = dst; src6 = src6; dst6 = dst6; sport = sport; dport = dport; proto = proto }))
+  done proto src dst sport dport = translated n (ends_of (record { tag = tag; src = src; dst = dst; src6 = src6; dst6 = dst6; sport = sport; dport = dport; proto = proto; ether_type = None; tcp_flags = None }))
 
   quiet : (proto src dst sport dport : Option ℕ) → (is_some src ≡ true → is_some dst ≡ true → is_some sport ≡ true → is_some dport ≡ true → ⊥) → (x : Field) → (done proto src dst sport dport).written x ≡ None
   quiet None src dst sport dport never x = refl
