@@ -1,20 +1,20 @@
 -- Clauses that exclude each other, and bits past a prefix's length.
 use Rattle.std.proofs.Common.{◌≡◌, ◌<◌, ◌≤◌, ◌+◌, ◌-◌, ◌*◌, ◌/◌, ◌%◌, ◌^◌, ◌∙◌, ℕ, List, [], ◌∷◌, Bool, true, false, refl, sym, ap, arith, Some, None, cond, ◌⊎◌, inl, inr}
-use Rattle.std.specs.Prelude.{◌&&◌, ◌||◌, ◌==◌, not, nat_le, nat_lt, Option}
+use Rattle.std.specs.Prelude.{◌&&◌, ◌||◌, ◌==◌, not, nat_le, nat_lt, bit_and, Option}
 use Rattle.std.specs.List.{list_all, list_any}
 use Rattle.std.specs.Option.{option_map_or}
 use Rattle.std.proofs.Math.Nat.{mod-add-div', mul-div_cancel}
 use Rattle.std.proofs.lemmas.Bool.{eqb-true, eq-eqb, leb-true, leb-false, le-leb, ltb-true}
-use Rattle.std.proofs.lemmas.Nat.{pow_pos}
-use Rattle.policy_text.specs.Meeting.{first_bits, is_within, is_within6, is_between, has_id, is_bare, is_met, is_fitting}
+use Rattle.std.proofs.lemmas.Nat.{pow_pos, and_assoc, and_comm}
+use Rattle.policy_text.specs.Meeting.{first_bits, is_within, is_within6, is_between, has_id, is_bare, has_bits, is_met, is_fitting}
 use Rattle.policy_text.specs.declared.clause.Clause.{Clause}
-use Rattle.policy_text.specs.declared.clause.Clause.TheVariants.{Src, Dst, Src6, Dst6, Sport, Dport, Proto, TagId, NoTag}
+use Rattle.policy_text.specs.declared.clause.Clause.TheVariants.{Src, Dst, Src6, Dst6, Sport, Dport, Proto, TagId, NoTag, Version4, Version6, Flags}
 use Rattle.policy_text.specs.declared.clause.Match.{Match}
 use Rattle.policy_text.specs.declared.seen.Seen.{Seen}
 use Rattle.policy_text.specs.declared.seen.TagSeen.{TagSeen}
 use Rattle.policy_text.specs.declared.seen.TagSeen.TheVariants.{Absent, Bare, Id}
 use Rattle.policy_lint.specs.declared.versions.Version.TheVariants.{Ipv4, Ipv6}
-use Rattle.policy_lint.specs.Opposing.{has_ports, are_apart, are_apart6, are_parted, opposes, is_opposed, clash, IsOfPacket}
+use Rattle.policy_lint.specs.Opposing.{has_ports, are_apart, are_apart6, are_parted, are_contrary, opposes, is_opposed, clash, IsOfPacket}
 use Rattle.policy_lint.specs.Spelling.{bits_past}
 use Rattle.policy_lint.specs.Versions.{is_of, Lacks}
 use Rattle.policy_lint.proofs.Covered.{both_true, right_of, same_front}
@@ -119,6 +119,24 @@ tagged_bare id Absent met bare = cc
 tagged_bare id Bare met bare = cc
 tagged_bare id (Id n) met bare = cc
 
+-- Flags.
+not_contrary : (mask set other some flags : ℕ) → are_contrary mask set other some ≡ true → has_bits mask set flags ≡ true → has_bits other some flags ≡ true → ⊥
+not_contrary mask set other some flags h met more =
+    true_not_false (bit_and set other == bit_and some mask)
+    (eq-eqb (bit_and set other) (bit_and some mask)
+    (ap (λ n. bit_and n other) (sym (eqb-true (bit_and flags mask) set met)) ∙ and_assoc other flags mask ∙ ap (bit_and flags) (and_comm mask other)
+    ∙ sym (and_assoc mask flags other) ∙ ap (λ n. bit_and n mask) (eqb-true (bit_and flags other) some more)))
+    (negated (bit_and set other == bit_and some mask) h)
+
+flags_of_tcp : (seen : Seen) (p mask set : ℕ) → IsOfPacket seen → not (p == 6) ≡ true → option_map_or (λ x. x == p) seen.proto false ≡ true → option_map_or (has_bits mask set) seen.tcp_flags false ≡ true → ⊥
+flags_of_tcp seen p mask set real h met more = by real.flags
+  where
+    by : (seen.proto ≡ Some 6) ⊎ (seen.tcp_flags ≡ None) → ⊥
+    by (inl tcp) =
+        let same : (6 == p) ≡ true = sym (ap (λ o. option_map_or (λ x. x == p) o false) tcp) ∙ met in
+        true_not_false (p == 6) (eq-eqb p 6 (sym (eqb-true 6 p same))) (negated (p == 6) h)
+    by (inr none) = unmet_without (has_bits mask set) seen.tcp_flags none more
+
 -- Clauses.
 pub not_both : (seen : Seen) (c e : Clause) → IsOfPacket seen → opposes c e ≡ true → is_met seen c ≡ true → is_met seen e ≡ true → ⊥
 not_both seen (Src p b) (Src q n) real h met other = on_both (is_within p b) (is_within q n) seen.src (λ a. not_apart 32 p b q n a h) met other
@@ -143,6 +161,19 @@ not_both seen (Proto p) (Proto q) real h met other = on_both (λ x. x == p) (λ 
 not_both seen (TagId id) (TagId more) real h met other = two_ids id more seen.tag h met other
 not_both seen (TagId id) NoTag real h met other = tagged_bare id seen.tag met other
 not_both seen NoTag (TagId id) real h met other = tagged_bare id seen.tag other met
+not_both seen Version4 Version6 real h met other = two_versions seen Version4 Version6 refl refl real.one_version met other
+not_both seen Version4 (Src6 q n) real h met other = two_versions seen Version4 (Src6 q n) refl refl real.one_version met other
+not_both seen Version4 (Dst6 q n) real h met other = two_versions seen Version4 (Dst6 q n) refl refl real.one_version met other
+not_both seen Version6 Version4 real h met other = two_versions seen Version4 Version6 refl refl real.one_version other met
+not_both seen Version6 (Src q n) real h met other = two_versions seen (Src q n) Version6 refl refl real.one_version other met
+not_both seen Version6 (Dst q n) real h met other = two_versions seen (Dst q n) Version6 refl refl real.one_version other met
+not_both seen (Src p b) Version6 real h met other = two_versions seen (Src p b) Version6 refl refl real.one_version met other
+not_both seen (Dst p b) Version6 real h met other = two_versions seen (Dst p b) Version6 refl refl real.one_version met other
+not_both seen (Src6 p b) Version4 real h met other = two_versions seen Version4 (Src6 p b) refl refl real.one_version other met
+not_both seen (Dst6 p b) Version4 real h met other = two_versions seen Version4 (Dst6 p b) refl refl real.one_version other met
+not_both seen (Flags m s) (Flags o t) real h met other = on_both (has_bits m s) (has_bits o t) seen.tcp_flags (λ f. not_contrary m s o t f h) met other
+not_both seen (Flags m s) (Proto p) real h met other = flags_of_tcp seen p m s real h other met
+not_both seen (Proto p) (Flags m s) real h met other = flags_of_tcp seen p m s real h met other
 not_both seen c e real h met other = cc
 
 -- one of the things passes, and with all of them the other test

@@ -1,21 +1,21 @@
 -- What clauses cover others is worth.
 use Rattle.std.proofs.Common.{◌≡◌, ◌≢◌, ◌<◌, ◌≤◌, ◌+◌, ◌-◌, ◌/◌, ◌^◌, ◌∙◌, ℕ, List, [], ◌∷◌, ◌++◌, length, get_or, Bool, true, false, refl, sym, ap, subst, arith, Some, None, cond, suc}
-use Rattle.std.specs.Prelude.{◌&&◌, ◌||◌, ◌==◌, nat_le, Option, find, position}
+use Rattle.std.specs.Prelude.{◌&&◌, ◌||◌, ◌==◌, nat_le, bit_and, Option, find, position}
 use Rattle.std.specs.List.{list_all, list_any}
 use Rattle.std.specs.Option.{option_map_or}
 use Rattle.std.proofs.Math.Nat.{div-div-eq-div-mul}
-use Rattle.std.proofs.lemmas.Nat.{pow-add}
+use Rattle.std.proofs.lemmas.Nat.{pow-add, and_assoc}
 use Rattle.std.proofs.lemmas.Bool.{eqb-true, eq-eqb, leb-true, le-leb}
 use Rattle.std.proofs.lemmas.List.Quantifiers.{position-Some}
-use Rattle.policy_text.specs.Meeting.{first_bits, is_within, is_within6, is_between, has_id, is_met, is_fitting}
+use Rattle.policy_text.specs.Meeting.{first_bits, is_within, is_within6, is_between, has_id, has_bits, is_met, is_fitting}
 use Rattle.policy_text.specs.declared.clause.Clause.{Clause}
-use Rattle.policy_text.specs.declared.clause.Clause.TheVariants.{Src, Dst, Src6, Dst6, Sport, Dport, Proto, TagId, NoTag}
+use Rattle.policy_text.specs.declared.clause.Clause.TheVariants.{Src, Dst, Src6, Dst6, Sport, Dport, Proto, TagId, NoTag, Version4, Version6, Flags}
 use Rattle.policy_text.specs.declared.clause.Match.{Match}
 use Rattle.policy_text.specs.declared.seen.Seen.{Seen}
 use Rattle.policy_text.specs.declared.seen.TagSeen.{TagSeen}
 use Rattle.policy_text.specs.declared.seen.TagSeen.TheVariants.{Absent, Bare, Id}
 use Rattle.function_lines.specs.Rules.{first_met}
-use Rattle.policy_lint.specs.Implying.{is_part, implies, covers}
+use Rattle.policy_lint.specs.Implying.{is_part, asks_more, implies, covers}
 
 pub both_true : (a b : Bool) → (a && b) ≡ true → (a ≡ true) × (b ≡ true)
 both_true true b h = (refl, h)
@@ -84,6 +84,14 @@ same_id id other Absent same met = met
 same_id id other Bare same met = met
 same_id id other (Id n) same met = same_number n id other same met
 
+-- bits that are as they have to be are so where fewer are looked at
+fewer_flags : (mask set fewer some flags : ℕ) → asks_more mask set fewer some ≡ true → has_bits mask set flags ≡ true → has_bits fewer some flags ≡ true
+fewer_flags mask set fewer some flags more met =
+    let parts = both_true (bit_and mask fewer == fewer) (bit_and set fewer == some) more in
+    eq-eqb (bit_and flags fewer) some
+    (ap (bit_and flags) (sym (eqb-true (bit_and mask fewer) fewer parts.0)) ∙ sym (and_assoc fewer flags mask)
+    ∙ ap (λ n. bit_and n fewer) (eqb-true (bit_and flags mask) set met) ∙ eqb-true (bit_and set fewer) some parts.1)
+
 implied_is_met : (seen : Seen) (c e : Clause) → implies c e ≡ true → is_met seen c ≡ true → is_met seen e ≡ true
 implied_is_met seen (Src p b) (Src q n) h met = on_value (is_within p b) (is_within q n) seen.src (λ a. in_both 32 p b q n a h) met
 implied_is_met seen (Dst p b) (Dst q n) h met = on_value (is_within p b) (is_within q n) seen.dst (λ a. in_both 32 p b q n a h) met
@@ -94,6 +102,9 @@ implied_is_met seen (Dport l u) (Dport m g) h met = on_value (is_between l u) (i
 implied_is_met seen (Proto p) (Proto q) h met = on_value (λ x. x == p) (λ x. x == q) seen.proto (λ a. same_number a p q h) met
 implied_is_met seen (TagId id) (TagId other) h met = same_id id other seen.tag h met
 implied_is_met seen NoTag NoTag h met = met
+implied_is_met seen Version4 Version4 h met = met
+implied_is_met seen Version6 Version6 h met = met
+implied_is_met seen (Flags m s) (Flags w t) h met = on_value (has_bits m s) (has_bits w t) seen.tcp_flags (λ f. fewer_flags m s w t f h) met
 implied_is_met seen c e h met = absurd cc
 
 any_implied : (seen : Seen) (e : Clause) (cs : List Clause) → list_any (λ c. implies c e) cs ≡ true → list_all (is_met seen) cs ≡ true → is_met seen e ≡ true

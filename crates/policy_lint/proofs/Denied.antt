@@ -1,11 +1,11 @@
 -- What firewalls that drop all, or by one version alone, do to packets.
 use Rattle.std.proofs.Common.{◌≡◌, ◌∙◌, List, [], ◌∷◌, Bool, true, false, refl, sym, ap, Some, cond}
-use Rattle.std.specs.Prelude.{◌&&◌, ◌||◌, not, find}
+use Rattle.std.specs.Prelude.{◌&&◌, ◌||◌, not, find, is_some}
 use Rattle.std.specs.List.{list_all, list_any}
 use Rattle.std.specs.Option.{option_map_or}
-use Rattle.policy_text.specs.Meeting.{is_within, is_within6, is_met, is_fitting}
+use Rattle.policy_text.specs.Meeting.{is_within, is_within6, is_type, is_met, is_fitting}
 use Rattle.policy_text.specs.declared.clause.Clause.{Clause}
-use Rattle.policy_text.specs.declared.clause.Clause.TheVariants.{Src, Dst, Src6, Dst6}
+use Rattle.policy_text.specs.declared.clause.Clause.TheVariants.{Src, Dst, Src6, Dst6, Version4, Version6}
 use Rattle.policy_text.specs.declared.clause.Match.{Match}
 use Rattle.policy_text.specs.declared.seen.Seen.{Seen}
 use Rattle.function_lines.specs.Rules.{first_met}
@@ -64,13 +64,6 @@ pub all_allowed : (rules : List RuleLine) (seen : Seen) → list_all (λ (r : Ru
     option_map_or (λ (r : RuleLine). r.allow) (first_met (λ (r : RuleLine). r.fit) seen rules) true ≡ true
 all_allowed rules seen h = all_alike true (λ r. r.allow) rules seen (λ r allows. allows) h
 
-pub clause_unmet : (version : Version) (c : Clause) (seen : Seen) → is_of version c ≡ true → Lacks version seen → is_met seen c ≡ false
-clause_unmet Ipv4 (Src prefix bits) seen h lacks = ap (λ a. option_map_or (is_within prefix bits) a false) lacks.0
-clause_unmet Ipv4 (Dst prefix bits) seen h lacks = ap (λ a. option_map_or (is_within prefix bits) a false) lacks.1
-clause_unmet Ipv6 (Src6 prefix bits) seen h lacks = ap (λ a. option_map_or (is_within6 prefix bits) a false) lacks.0
-clause_unmet Ipv6 (Dst6 prefix bits) seen h lacks = ap (λ a. option_map_or (is_within6 prefix bits) a false) lacks.1
-clause_unmet version c seen h lacks = absurd cc
-
 fails_first : (a b : Bool) → a ≡ false → (a && b) ≡ false
 fails_first true b h = absurd cc
 fails_first false b h = refl
@@ -78,6 +71,15 @@ fails_first false b h = refl
 fails_second : (a b : Bool) → b ≡ false → (a && b) ≡ false
 fails_second true b h = h
 fails_second false b h = refl
+
+pub clause_unmet : (version : Version) (c : Clause) (seen : Seen) → is_of version c ≡ true → Lacks version seen → is_met seen c ≡ false
+clause_unmet Ipv4 (Src prefix bits) seen h lacks = ap (λ a. option_map_or (is_within prefix bits) a false) lacks.0
+clause_unmet Ipv4 (Dst prefix bits) seen h lacks = ap (λ a. option_map_or (is_within prefix bits) a false) lacks.1
+clause_unmet Ipv6 (Src6 prefix bits) seen h lacks = ap (λ a. option_map_or (is_within6 prefix bits) a false) lacks.0
+clause_unmet Ipv6 (Dst6 prefix bits) seen h lacks = ap (λ a. option_map_or (is_within6 prefix bits) a false) lacks.1
+clause_unmet Ipv4 Version4 seen h lacks = fails_second (is_type 0x0800 seen.ether_type) (is_some seen.src) (ap is_some lacks.0)
+clause_unmet Ipv6 Version6 seen h lacks = fails_second (is_type 0x86DD seen.ether_type) (is_some seen.src6) (ap is_some lacks.0)
+clause_unmet version c seen h lacks = absurd cc
 
 clauses_unmet : (version : Version) (cs : List Clause) (seen : Seen) → list_any (is_of version) cs ≡ true → Lacks version seen → list_all (is_met seen) cs ≡ false
 clauses_unmet version [] seen h lacks = absurd cc

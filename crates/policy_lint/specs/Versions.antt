@@ -3,7 +3,7 @@ use Rattle.std.specs.Prelude.{ℕ, ◌≡◌, List, [], ◌++◌, Bool, true, fa
 use Rattle.std.specs.List.{list_all, list_any, flat_map}
 use Rattle.std.specs.Option.{option_map, option_to_list}
 use Rattle.policy_text.specs.declared.clause.Clause.{Clause}
-use Rattle.policy_text.specs.declared.clause.Clause.TheVariants.{Src, Dst, Src6, Dst6}
+use Rattle.policy_text.specs.declared.clause.Clause.TheVariants.{Src, Dst, Src6, Dst6, Version4, Version6}
 use Rattle.policy_text.specs.declared.clause.Match.{Match}
 use Rattle.policy_text.specs.declared.policy.ChainPolicy.{ChainPolicy}
 use Rattle.policy_text.specs.declared.policy.FunctionDecl.{FunctionDecl}
@@ -21,27 +21,39 @@ other_than Ipv4 = Ipv6
 other_than Ipv6 = Ipv4
 
 -- the clause is a prefix of this version
+abbrev pub is_prefix : Version → Clause → Bool
+is_prefix Ipv4 (Src prefix bits) = true
+is_prefix Ipv4 (Dst prefix bits) = true
+is_prefix Ipv6 (Src6 prefix bits) = true
+is_prefix Ipv6 (Dst6 prefix bits) = true
+is_prefix version clause = false
+
+-- the clause asks for this version: by a prefix, or by its number
 abbrev pub is_of : Version → Clause → Bool
 is_of Ipv4 (Src prefix bits) = true
 is_of Ipv4 (Dst prefix bits) = true
+is_of Ipv4 Version4 = true
 is_of Ipv6 (Src6 prefix bits) = true
 is_of Ipv6 (Dst6 prefix bits) = true
+is_of Ipv6 Version6 = true
 is_of version clause = false
 
 -- it takes all addresses of this version
 abbrev pub takes_all : Version → Clause → Bool
 takes_all Ipv4 (Src prefix bits) = bits == 0
 takes_all Ipv4 (Dst prefix bits) = bits == 0
+takes_all Ipv4 Version4 = true
 takes_all Ipv6 (Src6 prefix bits) = bits == 0
 takes_all Ipv6 (Dst6 prefix bits) = bits == 0
+takes_all Ipv6 Version6 = true
 takes_all version clause = false
 
 abbrev pub asks_by : Version → Match → Bool
 asks_by version fit = list_any (is_of version) fit.clauses
 
--- a rule denies by an address of this version, or some rule asks for one, or for nothing
+-- a rule denies by an address of this version, or some rule asks for this version, or for nothing
 abbrev pub is_denied_by : Version → RuleLine → Bool
-is_denied_by version r = not r.allow && asks_by version r.fit
+is_denied_by version r = not r.allow && list_any (is_prefix version) r.fit.clauses
 
 abbrev pub denies_by : Version → List RuleLine → Bool
 denies_by version rules = list_any (is_denied_by version) rules
@@ -52,11 +64,11 @@ names version rules = list_any (λ r. asks_by version r.fit) rules
 abbrev pub has_open : List RuleLine → Bool
 has_open rules = list_any (λ r. is_empty r.fit.clauses) rules
 
--- some rule denies by addresses of this version, none asks for one of the other or for nothing
+-- some rule denies by addresses of this version, none asks for the other or for nothing
 abbrev pub denies_alone : Version → List RuleLine → Bool
 denies_alone version rules = denies_by version rules && (not (names (other_than version) rules) && not (has_open rules))
 
--- packets of this version may come to the chain: no chain before takes all of them, and it asks for none of the other version
+-- packets of this version may come to the chain: no chain before takes all of them, and it doesn't ask for the other version
 abbrev pub comes : Version → List ChainPolicy → ChainPolicy → Bool
 comes version before chain = not (asks_by (other_than version) chain.fit) && not (list_any (λ (c : ChainPolicy). list_all (takes_all version) c.fit.clauses) before)
 

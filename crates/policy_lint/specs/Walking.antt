@@ -11,7 +11,7 @@ use Rattle.policy_text.specs.Addresses6.{address6_of}
 use Rattle.policy_text.specs.Meeting.{is_within}
 use Rattle.policy_text.specs.Values.{address_of}
 use Rattle.policy_text.specs.declared.clause.Clause.{Clause}
-use Rattle.policy_text.specs.declared.clause.Clause.TheVariants.{Src, Dst, Src6, Dst6, Sport, Dport, Proto, TagId, NoTag}
+use Rattle.policy_text.specs.declared.clause.Clause.TheVariants.{Src, Dst, Src6, Dst6, Sport, Dport, Proto, TagId, NoTag, Version4, Version6, Flags}
 use Rattle.policy_text.specs.declared.policy.ChainPolicy.{ChainPolicy}
 use Rattle.policy_text.specs.declared.policy.FunctionDecl.{FunctionDecl}
 use Rattle.policy_text.specs.declared.policy.Setting.{Setting}
@@ -40,6 +40,9 @@ rewrites (Dport low high) decl = writes_of (profile_of decl.kind) DstPort
 rewrites (TagId id) decl = writes_of (profile_of decl.kind) Tag
 rewrites NoTag decl = writes_of (profile_of decl.kind) Tag
 rewrites (Proto p) decl = false
+rewrites (Flags mask set) decl = false
+rewrites Version4 decl = false
+rewrites Version6 decl = false
 
 -- one of the functions at these places does
 abbrev pub is_rewritten : List FunctionDecl → List ℕ → Clause → Bool

@@ -1,7 +1,7 @@
 //! Which clauses leave nothing for others.
 ghost use Rattle.std.specs.Prelude.{◌≡◌};
 ghost use Rattle.std.specs.List.{list_any};
-ghost use Rattle.policy_lint.specs.Implying.{lies_in, lies_in6, is_part, implies, covers};
+ghost use Rattle.policy_lint.specs.Implying.{lies_in, lies_in6, is_part, asks_more, implies, covers};
 
 use policy_text::{Clause, Match, is_within, is_within6};
 
@@ -44,6 +44,11 @@ fn implies(clause: &Clause, other: &Clause) -> bool
         (Clause::Proto(protocol), Clause::Proto(other)) => protocol == other,
         (Clause::TagId(id), Clause::TagId(other)) => id == other,
         (Clause::NoTag, Clause::NoTag) => true,
+        (Clause::Version4, Clause::Version4) => true,
+        (Clause::Version6, Clause::Version6) => true,
+        (Clause::Flags(mask, set), Clause::Flags(fewer, some)) => {
+            asks_more(mask, set, fewer, some)
+        }
         _ => false,
     }
 }
@@ -67,4 +72,11 @@ fn is_part(low: u16, high: u16, least: u16, greatest: u16) -> bool
     ensures { result ≡ is_part low high least greatest }
 {
     least <= low && high <= greatest
+}
+
+// Do the first flags ask for all that the second ask for?
+fn asks_more(mask: u8, set: u8, fewer: u8, some: u8) -> bool
+    ensures { result ≡ asks_more mask set fewer some }
+{
+    mask & fewer == fewer && set & fewer == some
 }

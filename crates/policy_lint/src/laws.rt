@@ -46,7 +46,8 @@ pub fn rules_that_drop_all_deny()
         option_map_or (λ (r : RuleLine). r.allow) (first_met (λ (r : RuleLine). r.fit) seen rules) default ≡ false }
 {}
 
-/// A law: clauses of which one asks for an address of a version aren't met by a packet that has none of this version.
+/// A law: clauses of which one asks for a version of IP, by an address or by its number, aren't met by a packet that has
+/// no address of this version.
 pub fn addresses_keep_to_their_version()
     ensures { (version : Version) → (fit : Match) → (seen : Seen) → asks_by version fit ≡ true → Lacks version seen → is_fitting fit seen ≡ false }
 {}

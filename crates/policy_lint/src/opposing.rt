@@ -1,6 +1,6 @@
 //! Clauses that exclude each other.
 ghost use Rattle.std.specs.Prelude.{◌≡◌};
-ghost use Rattle.policy_lint.specs.Opposing.{has_ports, are_apart, are_apart6, are_parted, opposes, is_opposed, clash};
+ghost use Rattle.policy_lint.specs.Opposing.{has_ports, are_apart, are_apart6, are_parted, are_contrary, opposes, is_opposed, clash};
 
 use crate::covering::{lies_in, lies_in6};
 use policy_text::{Clause, Match};
@@ -59,6 +59,21 @@ pub fn opposes(clause: Clause, other: Clause) -> bool
         (Clause::TagId(id), Clause::TagId(other)) => id != other,
         (Clause::TagId(_), Clause::NoTag) => true,
         (Clause::NoTag, Clause::TagId(_)) => true,
+        (Clause::Version4, Clause::Version6) => true,
+        (Clause::Version4, Clause::Src6(_, _)) => true,
+        (Clause::Version4, Clause::Dst6(_, _)) => true,
+        (Clause::Version6, Clause::Version4) => true,
+        (Clause::Version6, Clause::Src(_, _)) => true,
+        (Clause::Version6, Clause::Dst(_, _)) => true,
+        (Clause::Src(_, _), Clause::Version6) => true,
+        (Clause::Dst(_, _), Clause::Version6) => true,
+        (Clause::Src6(_, _), Clause::Version4) => true,
+        (Clause::Dst6(_, _), Clause::Version4) => true,
+        (Clause::Flags(mask, set), Clause::Flags(other, some)) => {
+            are_contrary(mask, set, other, some)
+        }
+        (Clause::Flags(_, _), Clause::Proto(protocol)) => protocol != 6,
+        (Clause::Proto(protocol), Clause::Flags(_, _)) => protocol != 6,
         _ => false,
     }
 }
@@ -87,4 +102,11 @@ fn are_parted(low: u16, high: u16, least: u16, greatest: u16) -> bool
     ensures { result ≡ are_parted low high least greatest }
 {
     high < least || greatest < low
+}
+
+// Does some bit have to be 1 in the one and 0 in the other?
+fn are_contrary(mask: u8, set: u8, other: u8, some: u8) -> bool
+    ensures { result ≡ are_contrary mask set other some }
+{
+    set & other != some & mask
 }

@@ -17,10 +17,10 @@ const LIMITER_BEHIND: &str =
     "this limiter counts by what the function on line {} wrote as the source, so that machines behind it count as one\n  write `order A before B` so that the limiter comes before it, and counts each machine by itself";
 
 const DENIES_IPV4_ALONE: &str =
-    "this firewall denies by addresses of IPv4 alone, and no firewall of its chain names one of IPv6: IPv6 packets meet none of these rules\n  add `rule deny src ::/0` to drop them, or `rule allow src ::/0` to say that they pass; if this firewall has 256 rules, say it in a second firewall";
+    "this firewall denies by addresses of IPv4 alone, and no firewall of its chain names one of IPv6: IPv6 packets meet none of these rules\n  add `rule deny version 6` to drop them, or `rule allow version 6` to say that they pass; if this firewall has 256 rules, say it in a second firewall";
 
 const DENIES_IPV6_ALONE: &str =
-    "this firewall denies by addresses of IPv6 alone, and no firewall of its chain names one of IPv4: IPv4 packets meet none of these rules\n  add `rule deny src 0.0.0.0/0` to drop them, or `rule allow src 0.0.0.0/0` to say that they pass; if this firewall has 256 rules, say it in a second firewall";
+    "this firewall denies by addresses of IPv6 alone, and no firewall of its chain names one of IPv4: IPv4 packets meet none of these rules\n  add `rule deny version 4` to drop them, or `rule allow version 4` to say that they pass; if this firewall has 256 rules, say it in a second firewall";
 
 const PUBLIC_INSIDE: &str =
     "this public address is one of those inside, by line {}: a machine that has it can't be distinguished from the nat\n  take an address that isn't inside, or a prefix with more bits";
@@ -29,7 +29,7 @@ const SHARED_PORTS: &str =
     "the nat of line {} uses some of these ports of the same public address: a packet that comes back may belong to either\n  part the ports, as 40000-44999 and 45000-49999, or give each nat an address of its own";
 
 const CLAUSES_CLASH: &str =
-    "no packet meets this line: two of its clauses exclude each other, such as ports and a protocol without ports, or addresses of IPv4 and of IPv6\n  delete one of the two clauses, or write a line for each";
+    "no packet meets this line: two of its clauses exclude each other, such as ports and a protocol without ports, flags and a protocol other than TCP, or one of IPv4 and one of IPv6\n  delete one of the two clauses, or write a line for each";
 
 const BITS_PAST_LENGTH: &str =
     "bits of a prefix on this line past its length aren't 0, and they don't count: 10.1.2.3/8 means 10.0.0.0/8\n  write these bits as 0, or the length that you mean: for one address leave the length out";

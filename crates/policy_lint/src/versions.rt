@@ -3,7 +3,7 @@ ghost use Rattle.std.specs.Prelude.{◌≡◌, ◌++◌, find, OnOk, IfOk};
 ghost use Rattle.std.specs.List.{list_all, list_any};
 ghost use Rattle.std.specs.Option.{option_copied};
 ghost use Rattle.policy_text.specs.declared.policy.ChainPolicy.{ChainPolicy};
-ghost use Rattle.policy_lint.specs.Versions.{other_than, is_of, takes_all, asks_by, is_denied_by, denies_by, names, has_open, denies_alone, comes, is_alone, firewall_rules, all_rules, drops_rest, told_version, alone_in};
+ghost use Rattle.policy_lint.specs.Versions.{other_than, is_prefix, is_of, takes_all, asks_by, is_denied_by, denies_by, names, has_open, denies_alone, comes, is_alone, firewall_rules, all_rules, drops_rest, told_version, alone_in};
 ghost use Rattle.policy_lint.specs.declared.finding.Finding.TheVariants.{DeniesIpv4Alone, DeniesIpv6Alone};
 ghost use Rattle.policy_lint.specs.declared.versions.Version.TheVariants.{Ipv4, Ipv6};
 
@@ -145,7 +145,7 @@ fn denies_by(version: Version, rules: &[RuleLine]) -> bool
 fn is_denied_by(version: Version, rule: &RuleLine) -> bool
     ensures { result ≡ is_denied_by version rule.now }
 {
-    !rule.allow && asks_by(version, &rule.fit)
+    !rule.allow && has_prefix(version, &rule.fit)
 }
 
 fn names(version: Version, rules: &[RuleLine]) -> bool
@@ -162,7 +162,28 @@ fn has_open(rules: &[RuleLine]) -> bool
         .any(|rule| is_empty(rule.fit.clauses.as_slice()))
 }
 
-/// Does a clause ask for an address of the version?
+fn has_prefix(version: Version, fit: &Match) -> bool
+    ensures { result ≡ list_any (is_prefix version) fit.now.clauses }
+{
+    fit.clauses
+        .as_slice()
+        .iter()
+        .any(|clause| is_prefix(version, clause))
+}
+
+fn is_prefix(version: Version, clause: &Clause) -> bool
+    ensures { result ≡ is_prefix version clause.now }
+{
+    match (version, *clause) {
+        (Version::Ipv4, Clause::Src(_, _)) => true,
+        (Version::Ipv4, Clause::Dst(_, _)) => true,
+        (Version::Ipv6, Clause::Src6(_, _)) => true,
+        (Version::Ipv6, Clause::Dst6(_, _)) => true,
+        _ => false,
+    }
+}
+
+/// Does a clause ask for the version, by an address or by its number?
 pub fn asks_by(version: Version, fit: &Match) -> bool
     ensures { result ≡ asks_by version fit.now }
 {
@@ -200,8 +221,10 @@ fn is_of(version: Version, clause: &Clause) -> bool
     match (version, *clause) {
         (Version::Ipv4, Clause::Src(_, _)) => true,
         (Version::Ipv4, Clause::Dst(_, _)) => true,
+        (Version::Ipv4, Clause::Version4) => true,
         (Version::Ipv6, Clause::Src6(_, _)) => true,
         (Version::Ipv6, Clause::Dst6(_, _)) => true,
+        (Version::Ipv6, Clause::Version6) => true,
         _ => false,
     }
 }
@@ -213,8 +236,10 @@ pub fn takes_all(version: Version, clause: &Clause) -> bool
     match (version, *clause) {
         (Version::Ipv4, Clause::Src(_, bits)) => bits == 0,
         (Version::Ipv4, Clause::Dst(_, bits)) => bits == 0,
+        (Version::Ipv4, Clause::Version4) => true,
         (Version::Ipv6, Clause::Src6(_, bits)) => bits == 0,
         (Version::Ipv6, Clause::Dst6(_, bits)) => bits == 0,
+        (Version::Ipv6, Clause::Version6) => true,
         _ => false,
     }
 }

@@ -182,7 +182,8 @@ fn rewrites(clause: Clause, decl: &FunctionDecl) -> bool
         Clause::Dport(_, _) => profile.writes_field(Field::DstPort),
         Clause::TagId(_) => profile.writes_field(Field::Tag),
         Clause::NoTag => profile.writes_field(Field::Tag),
-        Clause::Proto(_) => false,
+        Clause::Proto(_) | Clause::Flags(_, _) => false,
+        Clause::Version4 | Clause::Version6 => false,
     }
 }
 
