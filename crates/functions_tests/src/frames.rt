@@ -19,6 +19,8 @@ fn sees_the_values_of_a_tagged_frame(rt: HostRuntime) {
         sport: Some(1000),
         dport: Some(53),
         proto: Some(17),
+        ether_type: Some(0x0800),
+        tcp_flags: None,
     };
     assert!(rt; seen(&TAGGED) == expected);
 }

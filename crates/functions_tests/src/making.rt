@@ -72,6 +72,8 @@ const NAME_QUERY: Seen = Seen {
     sport: None,
     dport: Some(53),
     proto: Some(17),
+    ether_type: Some(0x0800),
+    tcp_flags: None,
 };
 
 // The same of TCP.

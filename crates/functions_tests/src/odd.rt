@@ -112,6 +112,39 @@ fn odd_clauses_are_found(rt: HostRuntime) {
 }
 
 #[test]
+fn flags_and_versions_are_compared(rt: HostRuntime) {
+    let alloc = rt.alloc();
+    let clashing =
+        "nfp 1\nchain a\nfn f firewall\nrule deny version 4 src ::1\nrule deny flags syn proto udp\n";
+    finds(
+        &rt,
+        alloc,
+        clashing,
+        &[
+            Finding::ClausesClash { line: 4 },
+            Finding::ClausesClash { line: 5 },
+        ],
+    );
+    let excluded =
+        "nfp 1\nchain a match flags syn !ack\nfn f firewall\nrule deny flags fin ack\nrule deny flags fin\n";
+    finds(
+        &rt,
+        alloc,
+        excluded,
+        &[Finding::MatchExcludes { line: 4, by: 2 }],
+    );
+    let covered = "nfp 1\nchain a\nfn f firewall\nrule deny flags syn\nrule allow flags syn !ack\n";
+    finds(
+        &rt,
+        alloc,
+        covered,
+        &[Finding::RuleCovered { line: 5, by: 4 }],
+    );
+    let both = "nfp 1\nchain a\nfn f firewall\nrule deny src 10.0.0.0/8\nrule deny version 6\n";
+    finds(&rt, alloc, both, &[]);
+}
+
+#[test]
 fn odd_patterns_are_found(rt: HostRuntime) {
     let alloc = rt.alloc();
     let patterns =

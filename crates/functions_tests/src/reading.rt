@@ -20,6 +20,8 @@ const SEEN: Seen = Seen {
     sport: None,
     dport: None,
     proto: Some(17),
+    ether_type: Some(0x0800),
+    tcp_flags: None,
 };
 
 // The same without its source.
@@ -31,6 +33,42 @@ fn clauses_are_read_and_met(rt: HostRuntime) {
     let words = [word(&rt, alloc, "src"), word(&rt, alloc, "10.1.0.0/16")];
     let fit = had(&rt, read_match(alloc, &words));
     assert!(rt; fits(&fit, &SEEN) && !fits(&fit, &WITHOUT_SOURCE));
+}
+
+// The packet that opens a connection, and what answers it: the bits of SYN and ACK are 2 and 16.
+const OPENING: Seen = Seen {
+    proto: Some(6),
+    tcp_flags: Some(2),
+    ..SEEN
+};
+
+const ANSWER: Seen = Seen {
+    tcp_flags: Some(18),
+    ..OPENING
+};
+
+#[test]
+fn flags_and_versions_are_read_and_met(rt: HostRuntime) {
+    let alloc = rt.alloc();
+    let words = [
+        word(&rt, alloc, "flags"),
+        word(&rt, alloc, "syn"),
+        word(&rt, alloc, "!ack"),
+        word(&rt, alloc, "version"),
+        word(&rt, alloc, "4"),
+    ];
+    let fit = had(&rt, read_match(alloc, &words));
+    assert!(rt; fits(&fit, &OPENING) && !fits(&fit, &ANSWER));
+    assert!(rt;
+        !fits(&fit, &SEEN)
+            && !fits(
+                &fit,
+                &Seen {
+                    src: None,
+                    ..OPENING
+                }
+            )
+    );
 }
 
 fn is_get(rt: &impl Abort, alloc: Global, form: &str, word: &str) -> bool {

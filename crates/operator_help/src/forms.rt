@@ -1,7 +1,7 @@
 //! The kinds of functions, the forms of their lines, and which word of a line doesn't fit them. The forms and the clauses that words
 //! are compared with are those that are shown.
 
-use crate::lines::{Row, part, text_beside, until};
+use crate::lines::{Row, is_one_of, part, text_beside, until};
 use crate::page::Page;
 use action_profile::Kind;
 use policy_text::{address, address6, mac, number, prefix, prefix6, range};
@@ -10,7 +10,10 @@ use policy_text::{address, address6, mac, number, prefix, prefix6, range};
 const MAX_PATTERN: usize = 256;
 
 /// How many clauses there are.
-const CLAUSES: usize = 6;
+const CLAUSES: usize = 8;
+
+/// The flags of TCP that a clause may name.
+const FLAGS: &[&[u8]] = &[b"fin", b"syn", b"rst", b"psh", b"ack", b"urg"];
 
 /// The greatest number that a form has.
 const GREATEST: u64 = 4_294_967_295;
@@ -46,7 +49,9 @@ pub fn article_of(kind: Kind) -> &'static str {
 /// The clauses that a line of this kind takes.
 pub fn clauses_of(kind: Kind) -> &'static str {
     match kind {
-        Kind::Marker => "src PREFIX, dst PREFIX, sport PORTS, dport PORTS, proto tcp|udp|0-255",
+        Kind::Marker => {
+            "src PREFIX, dst PREFIX, sport PORTS, dport PORTS, proto tcp|udp|0-255, version 4|6, flags FLAG .."
+        }
         Kind::Tagger => "src PREFIX",
         _ => ALL_CLAUSES,
     }
@@ -54,7 +59,7 @@ pub fn clauses_of(kind: Kind) -> &'static str {
 
 /// All clauses.
 pub const ALL_CLAUSES: &str =
-    "src PREFIX, dst PREFIX, sport PORTS, dport PORTS, proto tcp|udp|0-255, tag 0-4095|none";
+    "src PREFIX, dst PREFIX, sport PORTS, dport PORTS, proto tcp|udp|0-255, tag 0-4095|none, version 4|6, flags FLAG ..";
 
 /// The lines that a function of this kind must have.
 pub fn required_of(kind: Kind) -> &'static str {
@@ -133,7 +138,7 @@ fn clauses_misfit(clauses: Row<'_>, row: Row<'_>, from: usize) -> Option<usize> 
             return None;
         }
         let wanted = wanted_of(clauses, lead);
-        if wanted.is_empty() || place_of_word(row, from, lead) < place {
+        if wanted.is_empty() || is_between(row, from, place, lead) {
             return Some(place);
         }
         let value = place.saturating_add(1);
@@ -141,8 +146,58 @@ fn clauses_misfit(clauses: Row<'_>, row: Row<'_>, from: usize) -> Option<usize> 
             return Some(value);
         }
         place = value.saturating_add(1);
+        if is_flag(row.word(value)) {
+            place = after_flags(row, value);
+        }
     }
     None
+}
+
+// Is the word at one of the places from the first to before the second?
+fn is_between(row: Row<'_>, from: usize, to: usize, word: &[u8]) -> bool {
+    for place in from..to {
+        if row.word(place) == word {
+            return true;
+        }
+    }
+    false
+}
+
+// The place after the flags that begin at this place, of which no two name one flag.
+fn after_flags(row: Row<'_>, from: usize) -> usize {
+    let mut place = from.saturating_add(1);
+    for _ in FLAGS {
+        let flag = row.word(place);
+        if !is_flag(flag) || names_flag(row, from, place, flag) {
+            return place;
+        }
+        place = place.saturating_add(1);
+    }
+    place
+}
+
+// Is the flag named at one of the places from the first to before the second?
+fn names_flag(row: Row<'_>, from: usize, to: usize, flag: &[u8]) -> bool {
+    for place in from..to {
+        if name_of_flag(row.word(place)) == name_of_flag(flag) {
+            return true;
+        }
+    }
+    false
+}
+
+/// Is it a flag of TCP, alone or with `!` before it?
+pub fn is_flag(word: &[u8]) -> bool {
+    is_one_of(name_of_flag(word), FLAGS)
+}
+
+// A flag without `!`.
+fn name_of_flag(word: &[u8]) -> &[u8] {
+    if word.starts_with(b"!") {
+        part(word, 1, word.len())
+    } else {
+        word
+    }
 }
 
 // What has to follow the first word of a clause, or nothing if there is no such clause.
@@ -186,6 +241,7 @@ fn fits_one(wanted: &[u8], word: &[u8]) -> bool {
         Value::Mac => mac(word).is_some(),
         Value::Pattern => word.len() <= MAX_PATTERN,
         Value::Digits => are_digits(word),
+        Value::Flag => is_flag(word),
         Value::Other => fits_other(wanted, word),
     }
 }
@@ -202,6 +258,7 @@ enum Value {
     Mac,
     Pattern,
     Digits,
+    Flag,
     /// The numbers of a range, or the word itself.
     Other,
 }
@@ -216,6 +273,7 @@ const VALUES: &[(&[u8], Value)] = &[
     (b"MAC", Value::Mac),
     (b"WORD", Value::Pattern),
     (b"DIGITS", Value::Digits),
+    (b"FLAG", Value::Flag),
 ];
 
 fn value_of(wanted: &[u8]) -> Value {

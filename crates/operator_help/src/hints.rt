@@ -1,5 +1,6 @@
 //! What a word that does not fit seems to mean, and what to write instead.
 
+use crate::forms::is_flag;
 use crate::lines::{Row, is_one_of, part, text_beside, until};
 use crate::page::Page;
 use crate::shown::put_digits;
@@ -92,7 +93,12 @@ const PROTOCOLS: &[(&[u8], &str)] = &[
 ];
 
 // The words that begin clauses.
-const CLAUSES: &[&[u8]] = &[b"src", b"dst", b"sport", b"dport", b"proto", b"tag"];
+const CLAUSES: &[&[u8]] = &[
+    b"src", b"dst", b"sport", b"dport", b"proto", b"tag", b"version", b"flags",
+];
+
+const FLAG: &str =
+    "a flag is `fin`, `syn`, `rst`, `psh`, `ack` or `urg`, with `!` directly before it if it has to be 0; each stands at most once";
 
 // The settings that are addresses or prefixes of IPv4.
 const IPV4_SETTINGS: &[&[u8]] = &[b"inside", b"public", b"entry", b"exit"];
@@ -113,6 +119,8 @@ pub fn say_hint(page: &mut Page, row: Row<'_>, place: usize) {
         say_pattern(page, row, place);
     } else if until(word, b',') < word.len() {
         page.tell_some(hints.list);
+    } else if is_among_flags(row, place) {
+        page.tell(FLAG);
     } else if is_second_clause(row, place) {
         page.tell_some(hints.twice);
     } else if wants_ipv4(row) && is_of_ipv6(word) {
@@ -236,6 +244,14 @@ fn is_second_clause(row: Row<'_>, place: usize) -> bool {
     is_one_of(row.word(place), CLAUSES)
         && row.word(1) != b"text".as_slice()
         && stands_before(row, place)
+}
+
+// Does a word that begins no clause follow `flags`, or a flag?
+fn is_among_flags(row: Row<'_>, place: usize) -> bool {
+    let before = row.word(place.saturating_sub(1));
+    let word = row.word(place);
+    let follows = before == b"flags".as_slice() || is_flag(before) && place > 2;
+    follows && knows_values(row) && !word.is_empty() && !is_one_of(word, CLAUSES)
 }
 
 // Is the word at this place in its line before, after the first word?

@@ -43,7 +43,7 @@ const NO_LINE: &str =
     "no line begins with `{}`, but with one of: chain fn set rule order priority position";
 
 const CLAUSES: &str =
-    "a CLAUSE, each at most once, is: {}\na PREFIX is as 10.1.0.0/16, 10.1.2.3 or 2001:db8::/32, PORTS are as 80 or 1000-1999";
+    "a CLAUSE, each at most once, is: {}\na PREFIX is as 10.1.0.0/16, 10.1.2.3 or 2001:db8::/32, PORTS are as 80 or 1000-1999\na FLAG is fin, syn, rst, psh, ack or urg, with `!` before it if it has to be 0";
 
 const LONG: &str = "{}: a policy has at most 1048576 bytes";
 

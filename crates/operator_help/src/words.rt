@@ -8,10 +8,10 @@ use action_profile::Kind;
 pub type Texts = &'static [(&'static [u8], &'static str)];
 
 const STATE: &str =
-    "rules see single packets, not connections: let the answers of servers pass by their port, as `rule allow proto tcp sport 443`";
+    "rules see single packets, not connections: `rule allow flags ack` lets pass what belongs to a connection of TCP that is open, and `rule deny flags syn !ack` denies what opens one";
 
 const FLAGS: &str =
-    "no clause sees the flags of TCP, and so none sees which packet opens a connection: deny by the ports of the servers, as `rule deny proto tcp dst 10.1.0.0/16 dport 0-1023`";
+    "the clause is `flags`, with the names of flags after it, and `!` before those that have to be 0: `rule deny dst 10.1.0.0/16 flags syn !ack` denies what opens a connection to the inside";
 
 const VLAN: &str =
     "the clause for a VLAN id is `tag {}`; a marker and a tagger don't have it: put them into a chain with `match tag {}`";
@@ -32,7 +32,7 @@ const SRC: &str = "the clause is `src {}`";
 
 const DST: &str = "the clause is `dst {}`";
 
-const VERSION: &str = "a packet of IPv4 meets `src 0.0.0.0/0`, and one of IPv6 `src ::/0`";
+const VERSION: &str = "the clause is `version 4` or `version 6`";
 
 const INTERFACE: &str = "no clause sees interfaces: use `src`, `dst` or `tag`";
 
@@ -51,11 +51,13 @@ pub const CLAUSE_WORDS: Texts = &[
     (b"ct", STATE),
     (b"established", STATE),
     (b"related", STATE),
-    (b"flags", FLAGS),
     (b"tcp-flags", FLAGS),
     (b"--tcp-flags", FLAGS),
     (b"syn", FLAGS),
     (b"--syn", FLAGS),
+    (b"ack", FLAGS),
+    (b"fin", FLAGS),
+    (b"rst", FLAGS),
     (b"vlan", VLAN),
     (b"vlan-id", VLAN),
     (b"vid", VLAN),
@@ -169,6 +171,8 @@ pub const FIRST_WORDS: Texts = &[
     (b"dport", CLAUSE),
     (b"proto", CLAUSE),
     (b"tag", CLAUSE),
+    (b"version", CLAUSE),
+    (b"flags", CLAUSE),
 ];
 
 /// Other names of kinds.
