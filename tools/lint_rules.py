@@ -57,6 +57,8 @@ def implies(lead, value, other):
         return value.version == other.version and value.subnet_of(other)
     if lead in ('sport', 'dport'):
         return other[0] <= value[0] and value[1] <= other[1]
+    if lead == 'flags':
+        return value[0] & other[0] == other[0] and value[1] & other[0] == other[1]
     return value == other
 
 
@@ -78,11 +80,18 @@ def covered(name, things):
 TCP, UDP = 6, 17
 
 
+def version_of(value):
+    """Of a prefix, or of a clause on versions."""
+    return value if isinstance(value, int) else value.version
+
+
 def excludes(lead, value, other_lead, other):
     """Does no packet meet both clauses, the first of which is not after the second by its word?"""
     addresses = {lead, other_lead} <= {'src', 'dst'}
-    if addresses and value.version != other.version:
+    if {lead, other_lead} <= {'src', 'dst', 'version'} and version_of(value) != version_of(other):
         return True
+    if {lead, other_lead} == {'flags', 'proto'}:
+        return (value if lead == 'proto' else other) != TCP
     if {lead, other_lead} in ({'sport', 'proto'}, {'dport', 'proto'}):
         return (value if lead == 'proto' else other) not in (TCP, UDP)
     if lead != other_lead:
@@ -91,6 +100,8 @@ def excludes(lead, value, other_lead, other):
         return not value.overlaps(other)
     if lead in ('sport', 'dport'):
         return value[1] < other[0] or other[1] < value[0]
+    if lead == 'flags':
+        return value[1] & other[0] != other[1] & value[0]
     return value != other
 
 
@@ -187,9 +198,9 @@ def drops_all(function):
     return not default_of(function)
 
 
-def versions(clauses):
-    """The versions of IP of the prefixes in clauses."""
-    return {value.version for lead, value in clauses.items() if lead in ('src', 'dst')}
+def versions(clauses, leads=('src', 'dst', 'version')):
+    """The versions of IP that clauses ask for."""
+    return {version_of(value) for lead, value in clauses.items() if lead in leads}
 
 
 EVERYTHING = {4: ipaddress.ip_network('0.0.0.0/0'), 6: ipaddress.ip_network('::/0')}
@@ -198,7 +209,9 @@ EVERYTHING = {4: ipaddress.ip_network('0.0.0.0/0'), 6: ipaddress.ip_network('::/
 def odd_firewall(function):
     """A firewall that lets each packet pass, or none, by its rules and its default together."""
     rules = rules_of(function)
-    says_version = any(value in EVERYTHING.values() for rule in rules for lead, value in rule.clauses.items() if lead in ('src', 'dst'))
+    says_version = any(
+        lead == 'version' or lead in ('src', 'dst') and value in EVERYTHING.values() for rule in rules for lead, value in rule.clauses.items()
+    )
     if rules and default_of(function) and all(rule.allow for rule in rules) and not says_version:
         yield Finding('drops-none', function.line, 0)
     if rules and not default_of(function) and not any(rule.allow for rule in rules):
@@ -223,7 +236,7 @@ def odd_function(function, cut):
 
 def takes_version(chain, version):
     """Does a chain take all packets with addresses of this version?"""
-    return all(value == EVERYTHING[version] for value in chain.clauses.values())
+    return all(value == EVERYTHING[version] or (lead, value) == ('version', version) for lead, value in chain.clauses.items())
 
 
 def one_version(chains, at):
@@ -233,7 +246,7 @@ def one_version(chains, at):
     firewalls = [function for function in chain.functions if function.kind == 'firewall']
     rules = [(function.line, rule) for function in firewalls for rule in rules_of(function)]
     named = {version for _, rule in rules for version in versions(rule.clauses)}
-    denied = [(line, version) for line, rule in rules if not rule.allow for version in versions(rule.clauses)]
+    denied = [(line, version) for line, rule in rules if not rule.allow for version in versions(rule.clauses, ('src', 'dst'))]
     if not all(map(default_of, firewalls)) or any(not rule.clauses for _, rule in rules) or len(named) != 1 or not denied:
         return
     line, version = denied[0]

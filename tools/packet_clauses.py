@@ -20,7 +20,16 @@ def vlan_of(tags):
 
 
 # What a clause sees of its field, whose bytes these are, and whether it is met by that.
-SEEN = {'src': address_of, 'dst': address_of, 'sport': number, 'dport': number, 'proto': lambda value: value, 'tag': vlan_of}
+SEEN = {
+    'src': address_of,
+    'dst': address_of,
+    'sport': number,
+    'dport': number,
+    'proto': lambda value: value,
+    'tag': vlan_of,
+    'version': lambda value: value,
+    'flags': lambda value: value,
+}
 
 
 def meets(lead, wanted, value):
@@ -28,6 +37,8 @@ def meets(lead, wanted, value):
     seen = SEEN[lead](value)
     if lead in ('sport', 'dport'):
         return wanted[0] <= seen <= wanted[1]
+    if lead == 'flags':
+        return seen & wanted[0] == wanted[1]
     return seen == wanted
 
 

@@ -1,6 +1,6 @@
 """Runs packets through the chains of packet_rules.py quicker than these do alone, with the same result. Used by tools/explained.py.
 
-Packets with the same head (addresses, ports, tags and what else decides, but not the payload, checksums and numbers that change from packet to packet) meet the same rules. So the
+Packets with the same head (addresses, ports, flags, tags and what else decides, but not the payload, checksums and numbers that change from packet to packet) meet the same rules. So the
 walk of the first packet with a head is noted step by step, and the next ones repeat what is noted: what is written into the frame, and by how much its checksums change.
 What may differ between two packets with one head is done anew for each: a limiter's tokens, patterns in a payload, and a port of a nat that nobody has yet. Counts
 are kept by the head and added to the functions when they are asked for. A frame that is unusual (options of IPv4, headers that are cut) takes the whole walk of packet_rules.py.
@@ -29,7 +29,7 @@ def key_of(frame):
             if proto == TCP:
                 offset = frame[46]
                 if offset >= 0x50 and end >= 54 and 34 + (offset >> 4) * 4 <= end:
-                    return frame[:16] + frame[20:24] + frame[26:38] + frame[46:47], length, end
+                    return frame[:16] + frame[20:24] + frame[26:38] + frame[46:48], length, end
             elif proto == UDP and end >= 42:
                 return frame[:16] + frame[20:24] + frame[26:38], length, end
     if size < 14:
@@ -66,7 +66,7 @@ def key_of(frame):
             offset = frame[transport + 12]
             if offset < 0x50 or transport + (offset >> 4) * 4 > min(end, size):
                 return None, 0, 0
-            key += frame[transport : transport + 4] + frame[transport + 12 : transport + 13]
+            key += frame[transport : transport + 4] + frame[transport + 12 : transport + 14]
     if end > size:
         return (size, length, key), length, size
     return key, length, end

@@ -85,6 +85,13 @@ def data_offset(frame, header):
     return frame[header.transport + 12]
 
 
+def control_bits(frame, header):
+    """The byte of a TCP header with its flags, or None if there is none."""
+    if header is None or header.transport is None or header.proto != TCP or header.transport + 13 >= header.end:
+        return None
+    return frame[header.transport + 13]
+
+
 # Of many frames few differ in where their fields stand.
 @functools.lru_cache(16384)
 def places_of(size, behind_tags, header, offset):
@@ -127,7 +134,8 @@ class Packet:
         self.read, self.header, self.time = frame, header_of(frame, behind_tags), time
         self.places = places_of(len(frame), behind_tags, self.header, data_offset(frame, self.header))
         self.proto, self.length = (self.header.proto, self.header.length) if self.header else (None, None)
-        self.values = {'proto': self.proto}  # of the fields that someone asked for, and of what is asked for like one
+        # The version counts where the packet has a source.
+        self.values = {'proto': self.proto, 'version': self.header.version if 'src' in self.places else None, 'flags': control_bits(frame, self.header)}  # of the fields that someone asked for, and of what is asked for like one
         self.written = set()  # the fields that got another value
         self.is_changed = False  # whether one did since someone took it back
 

@@ -7,7 +7,7 @@ A table of packets has the head `| record | ..`, and a block of the report that 
 198.51.100.5:53` or `ping from 2001:db8::7 to 2001:db8::80`, with brackets if a port follows an address of IPv6. More
 follows if that matters: `, 500 bytes` for its length with the IP header, `, tos 184`, `, ttl 1` for the hop limit of IPv6 too, `,
 traffic class 184` and `, payload length 0` of an IPv6 header, `, data ..` for what UDP or TCP carry, `, tags 100 and 7 pcp 5` for the
-VLAN ids of its tags from the outermost on, with priorities that aren't 0, and `, cut to 20 bytes` for what was captured of the frame; `,
+VLAN ids of its tags from the outermost on, with priorities that aren't 0, `, flags syn ack` for those of TCP, and `, cut to 20 bytes` for what was captured of the frame; `,
 a later fragment`, without ports, `, with a routing header` and the like for an extension header of IPv6, and `, in MPLS` and the like
 for what it is inside, `, in a tunnel from 192.0.2.1 to 192.0.2.2` for an IPv4 packet in another of these addresses. What becomes of it is spelled in
 the same words, and of what comes `out of the tunnel` its ends.
@@ -52,6 +52,7 @@ MORE = {
     'traffic_class': re.compile(r'traffic class (\d+)'),
     'payload_length': re.compile(r'payload length (\d+)'),
     'tags': re.compile(f'tags? ({TAG}(?: and {TAG})*)'),
+    'flags': re.compile(f'flags ((?:{"|".join(policy_rules.FLAGS)})(?: (?:{"|".join(policy_rules.FLAGS)}))*)'),
     'data': re.compile('data `(.*)`'),
     'fragment': re.compile('(a later fragment)'),
     'extension': re.compile('with a (hop-by-hop|routing|fragment|destination) header'),
@@ -188,7 +189,8 @@ def content_of(what, source_port, port, said, is_ipv6):
     header = (40 if is_ipv6 else 20) + (20 if what == 'TCP' else 8)
     size = int(said['length'].replace(',', '')) - header if 'length' in said else 0
     data = said.get('data', '.' * size).encode('ascii')
-    return frames.tcp(source_port, port, frames.PUSH_ACK, data) if what == 'TCP' else frames.udp(source_port, port, data)
+    flags = sum(policy_rules.flag(flag)[0] for flag in said['flags'].split()) if 'flags' in said else frames.PUSH_ACK
+    return frames.tcp(source_port, port, flags, data) if what == 'TCP' else frames.udp(source_port, port, data)
 
 
 def microseconds(text):
@@ -253,7 +255,7 @@ def pairs(rows):
 
 def values(head, rows):
     """A policy for each value."""
-    words = {'number': 'dport', 'RANGE': 'dport', 'P': 'proto', 'N of `tag`': 'tag'}
+    words = {'number': 'dport', 'RANGE': 'dport', 'P': 'proto', 'N of `tag`': 'tag', 'F': 'flags'}
     for row in cells_of('value', head, rows):
         for good, value in [(True, value) for value in CODE.findall(row['good'])] + [(False, value) for value in CODE.findall(row['not good'])]:
             rule = f'rule deny {words.get(row["value"], "src")} {value}'

@@ -37,6 +37,10 @@ def clause_text(lead, value):
     elif lead in ('sport', 'dport'):
         low, high = value
         value = low if low == high else f'{low}-{high}'
+    elif lead == 'flags':
+        named, wanted = value
+        bits = [(name, 1 << place) for place, name in enumerate(policy_rules.FLAGS)]
+        value = ' '.join(name if wanted & bit else f'!{name}' for name, bit in bits if named & bit)
     elif lead == 'proto':
         value = {6: 'tcp', 17: 'udp'}.get(value, value)
     return f'{lead} {"none" if value is None else value}'

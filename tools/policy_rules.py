@@ -144,7 +144,46 @@ def vlan(word):
 
 any_prefix, any_address = either(prefix, prefix6), either(address, address6)
 
-CLAUSES = {'src': any_prefix, 'dst': any_prefix, 'sport': port_range, 'dport': port_range, 'proto': protocol, 'tag': vlan}
+def version(word):
+    if word not in ('4', '6'):
+        raise ValueError(word)
+    return int(word)
+
+
+# The flags of TCP (RFC 793, 3.1), from the lowest bit.
+FLAGS = ('fin', 'syn', 'rst', 'psh', 'ack', 'urg')
+
+
+def flag(word):
+    """The bit of a flag, and the bit if it has to be 1."""
+    bit = 1 << FLAGS.index(word.removeprefix('!'))
+    return bit, 0 if word.startswith('!') else bit
+
+
+def flags_in(words):
+    """The flags that words begin with, as the bits that are named and those of them that have to be 1; and how many words these are. Each bit is named once."""
+    named, wanted = flag(words[0])
+    for count, word in enumerate(words[1:], 1):
+        try:
+            bit, value = flag(word)
+        except ValueError:
+            return (named, wanted), count
+        if named & bit:
+            return (named, wanted), count
+        named, wanted = named | bit, wanted | value
+    return (named, wanted), len(words)
+
+
+CLAUSES = {
+    'src': any_prefix,
+    'dst': any_prefix,
+    'sport': port_range,
+    'dport': port_range,
+    'proto': protocol,
+    'tag': vlan,
+    'version': version,
+    'flags': flag,
+}
 
 
 def read_clauses(words, place):
@@ -159,6 +198,9 @@ def read_clauses(words, place):
         except (IndexError, ValueError):
             raise Misfit(place + 1) from None
         place += 2
+        if lead == 'flags':
+            clauses[lead], count = flags_in(words[place - 1 :])
+            place += count - 1
     return clauses
 
 
@@ -350,7 +392,7 @@ def with_clauses(*leads):
 def mark(words):
     if not words:
         raise ValueError(words)
-    return numeral(words[0], 255), with_clauses('src', 'dst', 'sport', 'dport', 'proto')(words[1:])
+    return numeral(words[0], 255), with_clauses('src', 'dst', 'sport', 'dport', 'proto', 'version', 'flags')(words[1:])
 
 
 def next_hop(words):

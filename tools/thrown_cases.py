@@ -66,7 +66,12 @@ def some_ports(rng):
     return rng.choice([str(low), f'{low}-{high}'])
 
 
-def some_clauses(rng, leads=('src', 'dst', 'sport', 'dport', 'proto', 'tag')):
+def some_flags(rng):
+    names = rng.sample(['fin', 'syn', 'rst', 'psh', 'ack', 'urg'], rng.choice([1, 1, 2, 3, 6]))
+    return ' '.join(rng.choice(['', '!']) + name for name in names)
+
+
+def some_clauses(rng, leads=('src', 'dst', 'sport', 'dport', 'proto', 'tag', 'version', 'flags')):
     values = {
         'src': some_prefix,
         'dst': some_prefix,
@@ -74,6 +79,8 @@ def some_clauses(rng, leads=('src', 'dst', 'sport', 'dport', 'proto', 'tag')):
         'dport': some_ports,
         'proto': lambda rng: rng.choice(['tcp', 'udp', '6', '1', '255']),
         'tag': lambda rng: rng.choice(['none', '0', '7', '100', '4095']),
+        'version': lambda rng: rng.choice(['4', '6']),
+        'flags': some_flags,
     }
     chosen = rng.sample(leads, rng.choice([0, 1, 1, 2, len(leads)]) if len(leads) > 1 else rng.randrange(2))
     return ''.join(f' {lead} {values[lead](rng)}' for lead in chosen)
@@ -113,7 +120,7 @@ LINES = {
     'monitor': lambda rng: [],
     'limiter': lambda rng: [f'set rate {rng.choice([1, 1000, 2**32 - 1])}', f'set burst {rng.choice([1, 28, 1000, 2**32 - 1])}'],
     'marker': lambda rng: [
-        f'rule tos {rng.choice([0, 46, 255])}{some_clauses(rng, ("src", "dst", "sport", "dport", "proto"))}' for _ in range(rng.randrange(3))
+        f'rule tos {rng.choice([0, 46, 255])}{some_clauses(rng, ("src", "dst", "sport", "dport", "proto", "version", "flags"))}' for _ in range(rng.randrange(3))
     ],
     'nexthop': lambda rng: [f'rule {some_prefix(rng)} to {some_link(rng)} from {some_link(rng)}' for _ in range(rng.randrange(3))],
     'hop': lambda rng: [],
