@@ -1,14 +1,15 @@
 // A slot over a file: the name, the file once there is one, the count of its faults, and the reason of the last fault.
-ghost use Rattle.std.specs.Prelude.{◌≡◌, ◌≤◌, IfOk, OnOk, OnErr, IsErrOf, None};
+ghost use Rattle.std.specs.Prelude.{◌≡◌, ◌≤◌, IfOk, OnOk, OnErr, IsOk, IsErr, IsErrOf, IsTrue, IfSome, MatchResult, Some, None, true};
 ghost use Rattle.std.specs.String.{string_bytes};
+ghost use Rattle.std.specs.Io.KnownBytes.{Keeps, ReadConsumes, WriteAppends};
 ghost use Rattle.nfp_outside.specs.Outside.{KeepsSlot, HasCause, IsRisen, CountsFailure, one_more, Attaches, Reads, Writes, fresh_slot};
-ghost use Rattle.file_desk.specs.Port.{port_view};
+ghost use Rattle.file_desk.specs.Port.{port_view, left_in, account, bytes_put, IsHandedOn, IsWritten};
 
-use crate::opened::{OpenFault, Target};
-use crate::reason::Reason;
+use crate::reason::{OpenFault, Reason};
+use crate::system::OutputFile;
+use crate::target::Target;
 use nfp_outside::{DeskFault, Slot};
-use std::fs::OpenFile;
-use std::io::{BufWriter, Read, Write};
+use std::io::{BufReader, BufWriter, Read, Write};
 
 /// What a desk over files keeps of a slot.
 #[derive(Drop)]
@@ -21,7 +22,8 @@ pub struct Port<F> {
 
 impl<F: Drop> Port<F> {
     pub fn new() -> Self
-        ensures { port_view result ≡ fresh_slot None }
+        ensures view { port_view result ≡ fresh_slot None }
+        ensures no_file { result.file ≡ None }
     {
         Port {
             name: None,
@@ -38,6 +40,7 @@ impl<F: Drop> Port<F> {
         ensures risen { IsRisen self.old.faults self.new.faults }
         ensures one_more { self.new.faults ≡ one_more self.old.faults }
         ensures failed { result ≡ DeskFault.Failed }
+        ensures same_file { self.new.file ≡ self.old.file }
     {
         self.faults = self.faults.saturating_add(1);
         self.reason = Some(reason);
@@ -57,6 +60,9 @@ impl<F: Drop> Port<F> {
         ensures cause { HasCause (port_view self.old) (port_view self.new) result }
         ensures counted { CountsFailure self.old.faults self.new.faults result }
         ensures want { IsErrOf result DeskFault.NoMemory → IsErrOf opened OpenFault.NoMemory }
+        ensures file { MatchResult opened
+            (λ file. IsOk result × (self.new.file ≡ Some file))
+            (λ _. IsErr result × (self.new.file ≡ self.old.file)) }
     {
         match opened {
             Ok(file) => {
@@ -70,13 +76,15 @@ impl<F: Drop> Port<F> {
     }
 }
 
-impl<F: Read + Drop> Port<F> {
+impl<F: Read + Drop> Port<BufReader<F>> {
+    // A read that the file refuses is a failure, and never the end.
     pub fn read(&mut self, into: &mut [u8]) -> Result<usize, DeskFault>
         ensures ok { IfOk result (λ k. Reads k into.new (port_view self.old) (port_view self.new)) }
         ensures err { OnErr result (KeepsSlot (port_view self.old) (port_view self.new)) }
         ensures cause { HasCause (port_view self.old) (port_view self.new) result }
         ensures no_want { IsErrOf result DeskFault.NoMemory → ⊥ }
         ensures counted { CountsFailure self.old.faults self.new.faults result }
+        ensures told { ReadConsumes (left_in F.remaining self.old) (left_in F.remaining self.new) result into.new }
     {
         match &mut self.file {
             Some(file) => match file.read(into) {
@@ -88,7 +96,7 @@ impl<F: Read + Drop> Port<F> {
     }
 }
 
-impl<F: Write + Drop> Port<F> {
+impl<F: OutputFile + Drop> Port<BufWriter<Target<F>>> {
     // A write that takes nothing of a piece is a failure.
     pub fn write(&mut self, bytes: &[u8]) -> Result<usize, DeskFault>
         ensures ok { IfOk result (λ k.
@@ -97,6 +105,7 @@ impl<F: Write + Drop> Port<F> {
         ensures cause { HasCause (port_view self.old) (port_view self.new) result }
         ensures no_want { IsErrOf result DeskFault.NoMemory → ⊥ }
         ensures counted { CountsFailure self.old.faults self.new.faults result }
+        ensures put { WriteAppends (bytes_put (account F.contents self.old)) (bytes_put (account F.contents self.new)) result bytes.now }
     {
         match &mut self.file {
             Some(file) => match file.write(bytes) {
@@ -108,10 +117,11 @@ impl<F: Write + Drop> Port<F> {
         }
     }
 
-    // Writes the bytes that were gathered for the file, unless a call of this slot has failed. Returns whether all of
-    // them were written.
+    // Hands the gathered bytes on to the file, unless a call of this slot has failed. Returns whether it took all of them.
     pub fn hand_on(&mut self) -> bool
-        ensures { port_view self.new ≡ port_view self.old }
+        ensures view { port_view self.new ≡ port_view self.old }
+        ensures put { Keeps (bytes_put (account F.contents self.old)) (bytes_put (account F.contents self.new)) }
+        ensures handed_on { IsTrue result → IsHandedOn F.contents self.new }
     {
         match &mut self.file {
             Some(file) if self.faults == 0 => match file.flush() {
@@ -124,12 +134,12 @@ impl<F: Write + Drop> Port<F> {
             _ => true,
         }
     }
-}
 
-impl<F: Write + OpenFile + Drop> Port<BufWriter<Target<F>>> {
     // Empties the file, if there is one. Returns whether it is empty, and keeps the reason if it can't be emptied.
     pub fn make_ready(&mut self) -> bool
-        ensures { port_view self.new ≡ port_view self.old }
+        ensures view { port_view self.new ≡ port_view self.old }
+        ensures put { Keeps (bytes_put (account F.contents self.old)) (bytes_put (account F.contents self.new)) }
+        ensures ready { IsTrue result → IfSome (account F.contents self.new) (λ a. a.is_emptied ≡ true) }
     {
         match &mut self.file {
             Some(writer) => match writer.get_mut().empty() {
@@ -139,6 +149,19 @@ impl<F: Write + OpenFile + Drop> Port<BufWriter<Target<F>>> {
                     false
                 }
             },
+            None => true,
+        }
+    }
+
+    // Whether no call of this slot has failed, and its file, if there is one, holds what was put.
+    pub fn is_written(&self) -> bool
+        ensures { IsTrue result → IsWritten F.contents self.now }
+    {
+        if self.faults > 0 {
+            return false;
+        }
+        match &self.file {
+            Some(writer) => writer.get_ref().is_emptied() && writer.buffer().is_empty(),
             None => true,
         }
     }

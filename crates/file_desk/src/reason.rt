@@ -15,6 +15,19 @@ pub enum Reason {
     StandardOutput,
     /// Standard error leads to the file, so messages would get into it.
     StandardError,
+    /// Both lead to the file.
+    BothStreams,
+    /// Another run has locked the file.
+    Locked,
     /// The file took nothing of a piece.
     TookNothing,
+}
+
+/// Why a file wasn't opened.
+#[derive(Clone, Copy, Debug)]
+pub enum OpenFault {
+    /// It can't be opened, for this reason.
+    Failed(Reason),
+    /// Out of memory for its buffer.
+    NoMemory,
 }

@@ -1,6 +1,6 @@
 // Whole texts through desks, with ample memory.
 use crate::plenty::had;
-use file_desk::FileDesk;
+use file_desk::{FileDesk, Host};
 use nfp_outside::{
     Desk, FixedDesk, MemDesk, OutsideFault, Scales, Slot, Weight, read_all, write_whole,
 };
@@ -63,13 +63,13 @@ fn what_is_put_is_weighed(rt: HostRuntime) {
 
 #[test]
 fn a_written_file_reads_back_and_a_missing_one_is_refused(rt: HostRuntime) {
-    let mut writer = FileDesk::new(had(&rt, rt.clone()));
+    let mut writer = FileDesk::new(Host::new(had(&rt, rt.clone())));
     had(&rt, writer.attach(Slot::Out, NAME));
     assert_eq!(rt; write_whole(&mut writer, Slot::Out, TEXT), Ok(()));
     assert_eq!(rt; write_whole(&mut writer, Slot::Out, b"end"), Ok(()));
     // What is written is gathered, and is in the file after `hand_on`.
     assert_eq!(rt; writer.hand_on(), None);
-    let mut desk = FileDesk::new(had(&rt, rt.clone()));
+    let mut desk = FileDesk::new(Host::new(had(&rt, rt.clone())));
     assert!(rt; desk.attach(Slot::Capture, "no_such_file").is_err());
     had(&rt, desk.attach(Slot::Policy, NAME));
     let all = had(&rt, read_all(rt.alloc(), &mut desk, Slot::Policy, 11));

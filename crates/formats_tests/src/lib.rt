@@ -10,6 +10,8 @@ mod captures;
 #[cfg(test)]
 mod desks;
 #[cfg(test)]
+mod files;
+#[cfg(test)]
 mod frames;
 #[cfg(test)]
 mod lists;

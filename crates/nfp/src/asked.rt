@@ -58,6 +58,14 @@ pub fn question_in(words: &[String]) -> Option<Question> {
     }
 }
 
+/// Whether the words ask for a demo, which makes its packets in memory.
+pub fn is_demo(words: &[String]) -> bool {
+    match words.first() {
+        Some(word) => word.as_str() == "demo",
+        None => false,
+    }
+}
+
 /// Prints the answer. A line that can't be printed is the outcome of a call whose line can't be.
 pub fn answer(rt: &impl Print, question: Question) -> Outcome {
     let printed = match question {

@@ -13,7 +13,7 @@ use operator_help::{Page, capture, capture_ng, files, graph, policy, usage};
 use policy_check::CheckFault;
 use policy_judge::PolicyFault;
 use std::env::FillError;
-use std::io::Error;
+use std::io::{Error, ErrorKind};
 use std::rt::Env;
 use std::str::from_utf8;
 use watched_desk::Seen;
@@ -23,6 +23,21 @@ const MOST_WORDS: usize = 64;
 
 /// The longest word that is looked at.
 const LONGEST_WORD: usize = 4096;
+
+/// What is told if memory ran out before there were packets. No memory is needed to tell it.
+const NO_MEMORY: &str = "nfp: out of memory; no threads were at work\n";
+
+/// The same if there were packets. A thread that can't be started counts as memory that can't be had.
+const NO_MEMORY_FOR_PACKETS: &str = "\
+nfp: out of memory; threads may have been at work, and each takes memory of its own
+nfp:   a smaller --burst, --mergers 1 and for flows --workers 1 take less
+";
+
+/// Why a file that another run writes can't be written.
+const LOCKED: &str = "another run writes it";
+
+/// Why a file to which standard output leads can't be read.
+const LED: &str = "standard output goes to it, and what is printed would get into it";
 
 /// Tells what to do about an outcome, and why its slot failed, where one did.
 pub fn tell_more<R: Env + Eprint + AllocGlobal>(
@@ -41,6 +56,15 @@ pub fn tell_more<R: Env + Eprint + AllocGlobal>(
     if !page.text().is_empty() {
         let _ = rt.eprint(page.text());
     }
+}
+
+/// Tells that memory ran out, and whether threads may have been at work then.
+pub fn tell_memory(rt: &impl Eprint, has_packets: bool) {
+    let _ = rt.eprint(if has_packets {
+        NO_MEMORY_FOR_PACKETS
+    } else {
+        NO_MEMORY
+    });
 }
 
 fn fill<R: Env>(
@@ -79,9 +103,11 @@ fn captured(seen: &Seen) -> Captured<'_> {
     }
 }
 
+// A file that can't be read. Nothing is told if standard error leads to it, since it would get into the file.
 fn unread_help(page: &mut Page, seen: &Seen, slot: Slot, reason: Option<Reason>) {
-    if let Some(name) = seen.name(slot) {
-        files::unread(page, name, of_system(reason));
+    match (seen.name(slot), reason) {
+        (None, _) | (_, Some(Reason::StandardError | Reason::BothStreams)) => {}
+        (Some(name), reason) => files::unread(page, name, of_system(reason)),
     }
 }
 
@@ -104,10 +130,12 @@ fn unwritten_file(page: &mut Page, seen: &Seen, name: &str, reason: Option<Reaso
     }
 }
 
-// What the system said.
+// What the system said, or why its file can't be used.
 fn of_system(reason: Option<Reason>) -> Option<Error> {
     match reason {
         Some(Reason::System(error)) => Some(error),
+        Some(Reason::Locked) => Some(Error::new(ErrorKind::WouldBlock, LOCKED)),
+        Some(Reason::StandardOutput) => Some(Error::new(ErrorKind::InvalidInput, LED)),
         _ => None,
     }
 }

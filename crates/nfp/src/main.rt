@@ -11,14 +11,17 @@
 //! progress there. Standard error also says what to do about an outcome. Nothing is promised of either.
 #![tactic(auto)]
 
+ghost use Rattle.std.specs.Prelude.{◌≡◌, ◌≢◌};
+ghost use Rattle.file_desk.specs.Desks.{IsAllWritten};
+
 mod asked;
 mod build;
 mod help;
 mod odd;
 
-use asked::{answer, question_in};
-use file_desk::{FileDesk, Reason};
-use help::tell_more;
+use asked::{answer, is_demo, question_in};
+use file_desk::{FileDesk, Host, Reason, System};
+use help::{tell_memory, tell_more};
 use nfp_outside::{OpenGate, Slot};
 use nfp_run::{Outcome, nfp, write_fault_text};
 use std::alloc::AllocError;
@@ -48,15 +51,24 @@ fn main(rt: HostRuntime) -> ExitCode {
     let outcome = match (words, files) {
         (Ok(words), Ok(files)) => {
             let watch = watch(&rt, rt.stderr().is_terminal());
-            let mut desk = Watched::new(FileDesk::new(files), watch);
+            let mut desk = Watched::new(FileDesk::new(Host::new(files)), watch);
             let outcome = nfp(&rt, rt.alloc(), &words, &mut desk, &OpenGate);
-            let (files, watch) = desk.into_parts();
+            let (mut files, watch) = desk.into_parts();
             let seen = watch.end();
-            let (outcome, reason) = end(&rt, files, outcome);
-            tell_more(&rt, &words, &seen, &outcome, reason);
+            let outcome = end(&rt, &mut files, outcome);
+            let reason = reason_of(&files, &outcome);
+            let has_packets = files.has_capture() || is_demo(&words);
+            drop(files);
+            match outcome {
+                Outcome::OutOfMemory => tell_memory(&rt, has_packets),
+                _ => tell_more(&rt, &words, &seen, &outcome, reason),
+            }
             outcome
         }
-        _ => Outcome::OutOfMemory,
+        _ => {
+            tell_memory(&rt, false);
+            Outcome::OutOfMemory
+        }
     };
     ExitCode::from(outcome.status())
 }
@@ -99,30 +111,41 @@ fn wants_progress(rt: &impl Env) -> bool {
     matches!(rt.var("NFP_PROGRESS", &mut value), Ok(1)) && value[0] == b'1'
 }
 
-// The outcome of the program, and why a slot failed. If gathered bytes were lost, Note has taken nothing, and the line of the
-// first slot that failed is printed here: one that had failed at a call of its own before, or else the one that lost
-// them. Nothing is printed once memory ran out. The files are closed then, so that none of them has the place of a closed
-// standard error.
-fn end<R: Files + Print + AllocGlobal + Drop>(
+// The outcome of the program. If gathered bytes were lost, Note has taken nothing, and the line of the first slot that failed is
+// printed here: one that had failed at a call of its own before, or else the one that lost them. Nothing is printed once
+// memory ran out.
+fn end<S: System + Drop>(
     rt: &(impl Print + AllocGlobal),
-    mut desk: FileDesk<R>,
+    desk: &mut FileDesk<S>,
     outcome: Outcome,
-) -> (Outcome, Option<Reason>) {
-    let outcome = match (desk.hand_on(), outcome) {
+) -> Outcome
+    // Done says that the files of Out and Report, where they are attached, hold all that was put into them.
+    ensures { result ≡ Outcome.Done → IsAllWritten S.Output.contents desk.new }
+{
+    match (desk.hand_on(), outcome) {
+        (None, Outcome::Done) => match desk.unwritten() {
+            None => Outcome::Done,
+            Some(slot) => tell(rt, slot),
+        },
         (None, outcome) => outcome,
         (Some(_), Outcome::OutOfMemory) => Outcome::OutOfMemory,
         (Some(_), Outcome::WriteFault(slot)) if slot != Slot::Note => tell(rt, slot),
         (Some(lost), _) => tell(rt, lost),
-    };
-    let reason = match &outcome {
+    }
+}
+
+// Why the slot of an outcome failed.
+fn reason_of<S: System + Drop>(desk: &FileDesk<S>, outcome: &Outcome) -> Option<Reason> {
+    match outcome {
         Outcome::ReadFault(slot) | Outcome::WriteFault(slot) => desk.reason(*slot),
         _ => None,
-    };
-    (outcome, reason)
+    }
 }
 
 // Prints the slot that couldn't be written, as a note does. The status says it too if the line can't be printed.
-fn tell(rt: &(impl Print + AllocGlobal), slot: Slot) -> Outcome {
+fn tell(rt: &(impl Print + AllocGlobal), slot: Slot) -> Outcome
+    ensures { result ≢ Outcome.Done }
+{
     match write_fault_text(rt.alloc(), slot) {
         Ok(line) => {
             let _ = io::writer(rt).write_all(&line);
