@@ -126,10 +126,8 @@ impl Reading {
 
     // The same of a word that is not the value of an option.
     fn takes_free(&mut self, page: &mut Page, word: &[u8]) -> bool {
-        if self.behind || !word.starts_with(b"-") {
+        if self.behind || !word.starts_with(b"-") || word == b"-".as_slice() {
             self.takes_name(page, word)
-        } else if word == b"-".as_slice() {
-            tell(page, DASH)
         } else if word == b"--".as_slice() {
             self.behind = true;
             true
@@ -148,6 +146,9 @@ impl Reading {
     fn takes_name(&mut self, page: &mut Page, word: &[u8]) -> bool {
         if word.is_empty() {
             return tell(page, EMPTY);
+        }
+        if word == b"-".as_slice() {
+            return tell(page, DASH);
         }
         if self.names >= self.form.names.len() {
             return self.too_many(page, word);
