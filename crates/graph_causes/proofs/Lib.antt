@@ -1,0 +1,7 @@
+mod Before
+mod Drafts
+mod Stepping
+mod Staging
+mod Listing
+mod Only
+mod Rows
