@@ -11,7 +11,6 @@ use Rattle.pcapng_io.specs.declared.block_kind.BlockKind.{BlockKind}
 use Rattle.pcapng_io.specs.declared.block_kind.BlockKind.TheVariants.{SectionHeader, InterfaceDescription}
 use Rattle.pcapng_io.specs.declared.fault.NgFault.{NgFault}
 use Rattle.pcapng_io.specs.declared.fault.NgFault.TheVariants.{CutBlock, BadBlock, BlockTooLong, BadLink, BadResolution, TooManyBlocks}
-use Rattle.pcapng_io.specs.declared.item.NgItem.{NgItem}
 use Rattle.pcapng_io.specs.declared.item.NgItem.TheVariants.{Section, Interface}
 use Rattle.pcapng_io.specs.declared.place.Place.{Place}
 use Rattle.pcapng_io.specs.Options.{BlockOption, options_of, resolution_of}
@@ -77,7 +76,7 @@ interface_rows n last size long options link =
 
 -- the bytes of options that begin after the change
 same_region : (at m k : ℕ) (w block : List ℕ) → Agrees m k w block → k ≤ at → options_at at w ≡ options_at at block
-same_region at m k w block agrees h = ap (λ n. take (n - (at + 4)) (drop at w)) agrees.size ∙ ap (take (length block - (at + 4))) (from_back at m k w block agrees h)
+same_region at m k w block agrees h = ap (λ n. take (n - 4 - at) (drop at w)) agrees.size ∙ ap (take (length block - 4 - at)) (from_back at m k w block agrees h)
 
 same_options : (order : Endian) (w block : List ℕ) → Agrees 12 16 w block → options_in order w ≡ options_in order block
 same_options order w block agrees = ap (options_of order) (same_region 16 12 16 w block agrees (omega arith))

@@ -101,10 +101,17 @@ pub copied_part : (order : Endian) (bytes : List ℕ) → length bytes % 4 ≡ 0
 unfolding copied
 copied_part order bytes whole = part_within (length bytes) order bytes whole
 
+-- what is copied of a part of a block is no longer than a block
+pub copied_most : (order : Endian) (n at : ℕ) (bytes options : List ℕ) → options ≡ copied order (take n (drop at bytes)) → n % 4 ≡ 0 → n + at ≤ length bytes → length bytes ≤ 16777216 → length options ≤ 16777216
+copied_most order n at bytes options is whole inside most =
+    let size : length (take n (drop at bytes)) ≡ n = omega (arith, inside, length-take n (drop at bytes), length-drop at bytes) in
+    let part = copied_part order (take n (drop at bytes)) (ap (λ k. k % 4) size ∙ whole) in
+    omega (arith, part.short, ap length is, size, inside, most)
+
 -- the length of a block without some options
 
 pub options_length : (at : ℕ) (block : List ℕ) → at + 4 ≤ length block → length (options_at at block) ≡ length block - (at + 4)
-options_length at block room = omega (arith, room, length-take (length block - (at + 4)) (drop at block), length-drop at block)
+options_length at block room = omega (arith, room, length-take (length block - 4 - at) (drop at block), length-drop at block)
 
 bytes_length : (order : Endian) (x : ℕ) → length (bytes_of order 4 x) ≡ 4
 bytes_length Big x = refl

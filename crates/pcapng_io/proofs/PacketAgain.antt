@@ -71,7 +71,7 @@ same_packet place p fits there =
     (nanoseconds_of (slice_index place.units (interface_in p.order block)) (ticks_in p.order block) % 1000000000) p.packet.fraction (original_in p.order block) p.packet.wire (take captured (drop 28 block)) p.packet.frame
     there.interface there.ticks
     (ap (λ n. copied p.order (options_at (28 + padded n) block)) there.captured
-    ∙ ap (λ m. copied p.order (take m (drop (28 + padded (length p.packet.frame)) block))) (let e : length block - (28 + padded (length p.packet.frame) + 4) ≡ packet_length p - 32 - padded (length p.packet.frame) = omega (arith, whole_length p) in e)
+    ∙ ap (λ m. copied p.order (take m (drop (28 + padded (length p.packet.frame)) block))) (let e : length block - 4 - (28 + padded (length p.packet.frame)) ≡ packet_length p - 32 - padded (length p.packet.frame) = omega (arith, whole_length p) in e)
     ∙ ap (copied p.order) there.options ∙ fits.copied)
     (ap (λ t. t / 1000000000) time ∙ sym fits.seconds) (ap (λ t. t % 1000000000) time ∙ sym fits.fraction) there.wire (ap (λ n. take n (drop 28 block)) there.captured ∙ there.frame)
 

@@ -75,7 +75,7 @@ length_in order bytes = number_at order 4 4 bytes
 
 -- the bytes of the options that begin at a place, up to the length at the block's end
 abbrev pub options_at : ℕ → List ℕ → List ℕ
-options_at at block = take (length block - (at + 4)) (drop at block)
+options_at at block = take (length block - 4 - at) (drop at block)
 
 -- an interface: its link type, its options, and its resolution
 abbrev pub link_in : Endian → List ℕ → ℕ

@@ -90,9 +90,9 @@ fn copied_block(
     requires whole { length block.items % 4 ≡ 0 }
     ensures { IfOk result (λ frame. frame ≡ copied_block order at block.items) }
 {
-    let end = block.len() - 4;
-    let options = copied(alloc, order, &block[at..end])?;
-    if options.len() == end - at {
+    let all = &block[at..block.len() - 4];
+    let options = copied(alloc, order, all)?;
+    if options.len() == all.len() {
         return Ok(Frame::new(block));
     }
     with_options(alloc, order, at, &options, &block)

@@ -2,7 +2,8 @@
 //!
 //! A section header begins a section and shows the order of all numbers in it. An interface description defines the
 //! ticks of its packets. An enhanced packet names its interface. Every other block is passed on unchanged, except the
-//! obsolete packet block and the simple packet block, which are refused. Accepted are version 1, the link type
+//! obsolete packet block and the simple packet block, which are refused. Custom blocks and options that must not be
+//! copied into a capture that was changed are read like others, and left out. Accepted are version 1, the link type
 //! Ethernet, blocks of at most 16,777,216 bytes, frames of at most 262,144, and resolutions from 10^0 to 10^-18 and
 //! from 2^0 to 2^-60 seconds.
 //!

@@ -87,7 +87,8 @@ fn give(
 /// Reads a capture block by block off the slot Capture of a desk, in whatever pieces the desk gives it.
 ///
 /// It takes no more bytes than a block needs. It allocates memory for one block at a time, at most 16,777,216 bytes,
-/// and for the ticks of each interface of the section. After an error a reader must not be used again.
+/// for a copy of its options or of the block without some of them, and for the ticks of each interface of the section.
+/// After an error a reader must not be used again.
 #[derive(Drop)]
 pub struct NgReader {
     place: Place,

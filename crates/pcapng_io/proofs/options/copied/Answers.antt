@@ -10,10 +10,11 @@ options-preserved c =
     let rest = c.options.rest.now in
     let size = c.options.size in
     let so_far = c.options.invariant in
-    rw (take_rest rest size)
-    (next_option c.args.order c.options.options.items c.copy_option.new.options.items rest (drop size rest) (copied c.args.order c.args.bytes.now) size c.u16_at.result so_far.0 so_far.2 c.options-test.true c.u16_at.ensures c.in_ok-copy_option.ensures refl,
-    omega (arith, so_far.1, so_far.2, front_whole c.args.order rest, front_within c.args.order rest, length-drop size rest),
-    c.front_length-size-in-options.ensures.value ∙ ap (front_length c.args.order) (take_rest rest size))
+    rw (take_rest rest size) (
+      next_option c.args.order c.options.options.items c.copy_option.new.options.items rest (drop size rest) (copied c.args.order c.args.bytes.now) size c.u16_at.result so_far.0 so_far.2 c.options-test.true c.u16_at.ensures c.in_ok-copy_option.ensures refl,
+      omega (arith, so_far.1, so_far.2, front_whole c.args.order rest, front_within c.args.order rest, length-drop size rest),
+      c.front_length-size-in-options.ensures.value ∙ ap (front_length c.args.order) (take_rest rest size),
+    )
 
 pub returns : goal.returns
 returns c =
