@@ -1,5 +1,5 @@
 //! The head of the capture that is written.
-ghost use Rattle.std.specs.Prelude.{◌≡◌, ◌+◌, min};
+ghost use Rattle.std.specs.Prelude.{◌≡◌, ◌+◌, ◌==◌, if◌then◌else◌, min};
 ghost use Rattle.std.specs.List.{sum_by};
 ghost use Rattle.capture_run.specs.ChainServiceProofs.{chains_of};
 ghost use Rattle.nfp_run.specs.Heads.{growth_by, growth_in, growth_of, written_head};
@@ -20,11 +20,7 @@ pub fn written_head(head: &CaptureHead, service: &Service) -> CaptureHead
     ensures { result ≡ written_head (chains_of service.now.chains) head.now }
 {
     CaptureHead {
-        snaplen: if head.snaplen == 0 {
-            0
-        } else {
-            grown(head.snaplen, service.chains.as_slice())
-        },
+        snaplen: grown_limit(head.snaplen, service.chains.as_slice()),
         ..*head
     }
 }
@@ -34,6 +30,16 @@ pub fn growth(service: &Service) -> u32
     ensures { result ≡ growth_of (chains_of service.now.chains) }
 {
     grown(0, service.chains.as_slice())
+}
+
+// A snaplen, grown by what the functions of the chains may add to a frame. 0 means that there is no limit, and stays 0.
+fn grown_limit(snaplen: u32, chains: &[ServiceChain]) -> u32
+    ensures { result ≡ (if snaplen == 0 then 0 else min (snaplen + sum_by (λ c. growth_in c.declared) chains.now) 4294967295) }
+{
+    if snaplen == 0 {
+        return 0;
+    }
+    grown(snaplen, chains)
 }
 
 // A snaplen in bytes, grown by what the functions of the chains may add to a frame, up to the largest number.
