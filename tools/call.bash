@@ -30,10 +30,10 @@ call_program() { # PROGRAM WORD..
         export NFP_PROGRESS=1
     fi
     # The C library keeps freed pieces of each size for the next packet. With room for the pieces of a burst, a packet through a chain costs up
-    # to a tenth less, for at most 2 to 3 MiB of memory. Up to 64 MiB that a burst freed stay with the program for the next burst, and so do
-    # lists of up to 32 MiB. All threads take memory from one arena: an arena for each would take 64 MiB of addresses, which a limit on
-    # addresses counts. A setting of the user's own is kept.
-    export GLIBC_TUNABLES=${GLIBC_TUNABLES-glibc.malloc.arena_max=1:glibc.malloc.tcache_count=2000:glibc.malloc.trim_threshold=67108864:glibc.malloc.mmap_threshold=33554432}
+    # to a tenth less, for at most 2 to 3 MiB of memory. Up to 64 MiB that a burst freed stay with the program for the next burst. A list of more
+    # than 1 MiB is mapped by itself, so that one that grows, as those of flows do, leaves no hole. All threads take memory from one arena: an
+    # arena for each would take 64 MiB of addresses, which a limit on addresses counts. A setting of the user's own is kept.
+    export GLIBC_TUNABLES=${GLIBC_TUNABLES-glibc.malloc.arena_max=1:glibc.malloc.tcache_count=2000:glibc.malloc.trim_threshold=67108864:glibc.malloc.mmap_threshold=1048576}
     # Each thread has a stack of this many KiB, and needs less than a fifth of it.
     ulimit -S -s 256 2>/dev/null || :
     # Past a limit on the size of files a write fails then, and the program says which file, in place of a signal that ends it.
