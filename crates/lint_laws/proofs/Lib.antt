@@ -1,0 +1,14 @@
+pub mod Accepted
+pub mod DoAlike
+pub mod FirewallLines
+pub mod Keyed
+pub mod LimiterLines
+pub mod Listed
+pub mod MadeAsRead
+pub mod NatLines
+pub mod Needless
+pub mod OfPackets
+pub mod PatternLines
+pub mod RuleLines
+pub mod Shut
+pub mod Twins
