@@ -1,6 +1,6 @@
 -- What findings mean holds of the functions that are made.
-use Rattle.std.proofs.Common.{◌≡◌, ◌∙◌, ℕ, List, [], ◌∷◌, ◌++◌, map, Bool, true, false, refl, sym, ap, subst, cond, Some, None, suc, zero}
-use Rattle.std.specs.Prelude.{Option, is_none, filter_map, codes, All, slice_get}
+use Rattle.std.proofs.Common.{◌≡◌, ◌∙◌, ℕ, List, [], ◌∷◌, ◌++◌, map, Bool, true, false, refl, append_assoc, sym, ap, subst, cond, Some, None, suc, zero}
+use Rattle.std.specs.Prelude.{Option, is_none, length, filter_map, codes, All, slice_get}
 use Rattle.std.specs.Option.{option_map, option_map_or}
 use Rattle.std.specs.Str.{bytes_eq}
 use Rattle.std.proofs.lemmas.List.Elements.{All-head, All-tail}
@@ -13,6 +13,7 @@ use Rattle.policy_text.specs.declared.policy.FunctionDecl.{FunctionDecl}
 use Rattle.policy_text.specs.declared.policy.Setting.{Setting}
 use Rattle.policy_text.specs.declared.seen.Seen.{Seen}
 use Rattle.policy_check.specs.declared.fault.Order.{Order}
+use Rattle.chain_walk.specs.Packets.{Packet, fates, functions_after}
 use Rattle.function_lines.specs.KindLines.{KindLines, refused_line as refused_line_of}
 use Rattle.function_lines.specs.Rules.{first_met}
 use Rattle.nf_filter.specs.declared.firewall.Rule.{Rule}
@@ -28,24 +29,28 @@ use Rattle.nf_mark.specs.Nexthops.{nexthop_of}
 use Rattle.nf_mark.specs.TaggerLines.{tagger_lines, line_of as tagger_line}
 use Rattle.nf_mark.specs.Taggers.{tagger_of}
 use Rattle.net_functions.specs.Builds.{making_of, function_of, refused_line}
+use Rattle.net_functions.specs.NetFunctions.{net_behaviour}
+use Rattle.net_functions.specs.declared.net_function.NetFunction.{NetFunction}
 use Rattle.net_functions.specs.declared.net_function.NetFunction.TheVariants as functions
 use Rattle.net_functions.specs.declared.making.Made.TheVariants as made
 use Rattle.policy_lint.specs.declared.finding.Finding.{Finding}
 use Rattle.policy_lint.specs.declared.finding.Finding.TheVariants.{RuleCovered, NeverReached, DropsNone, DropsEach}
 use Rattle.policy_lint.specs.declared.rule_line.RuleLine.{RuleLine}
-use Rattle.policy_lint.specs.Findings.{rule_asking}
+use Rattle.policy_lint.specs.Findings.{rule_asking, order_at}
 use Rattle.policy_lint.specs.Firewalls.{default_of, is_firewall}
 use Rattle.policy_lint.specs.Meaning.{IsOne, IsCovered, IsRuleCovered, IsFunction, IsFirewall, IsNeverReached, PassesAll, PassesNone, Means}
 use Rattle.policy_lint.specs.Rules.{word_of, rule_fit, rule_of, rules_of}
-use Rattle.lint_laws.specs.Alike.{AreMadeAlike, IsMadeToDrop}
+use Rattle.lint_laws.specs.Alike.{AreMadeAlike, DropsBy, IsMadeToDrop}
 use Rattle.lint_laws.specs.OfPackets.{AreAccepted, IsNeedless, IsDropping, IsPassing, IsShutOff, IsSoOfPackets}
 use Rattle.lint_laws.specs.Reading.{read_rule, read_firewall}
+use Rattle.lint_laws.specs.Walks.{IsGone, AreKept, AreInOrder, StaysBehind}
 use Rattle.lint_laws.proofs.Accepted.{all_said}
 use Rattle.lint_laws.proofs.DoAlike.{firewall_without, firewall_drops, markers_alike, taggers_alike, nexthops_alike}
 use Rattle.lint_laws.proofs.FirewallLines.{rule_in}
 use Rattle.lint_laws.proofs.Listed.{cut_at}
 use Rattle.lint_laws.proofs.MadeAsRead.{firewall_made}
 use Rattle.lint_laws.proofs.Needless.{IsLeft, left}
+use Rattle.lint_laws.proofs.Shut.{all_kept, all_gone}
 use Rattle.lint_laws.proofs.RuleLines.{fit_of_rule, no_rule_in, none_either, firewall_reads, marker_reads, tagger_reads, nexthop_reads}
 
 -- Rules that may go.
@@ -145,6 +150,52 @@ got_one [] place t h = absurd cc
 got_one (x ∷ things) zero t h = let same : x ≡ t = cc in record { front = []; back = things; is = ap (λ y. y ∷ things) same }
 got_one (x ∷ things) (suc place) t h = let rest = got_one things place t h in record { front = x ∷ rest.front; back = rest.back; is = ap (λ l. x ∷ l) rest.is }
 
+-- What stands in an order behind a function that drops every packet.
+
+-- the functions of an order, cut at a place
+record IsCutOrder (decls : List FunctionDecl) (front : List ℕ) (place : ℕ) (fs : List NetFunction) : Type 0 where
+  before : List NetFunction
+  f : NetFunction
+  after : List NetFunction
+  is : fs ≡ before ++ f ∷ after
+  as_many : length before ≡ length front
+  decl : FunctionDecl
+  is_there : slice_get decls place ≡ Some decl
+  is_made : function_of decl ≡ made.Function f
+
+cut_functions : (decls : List FunctionDecl) (front : List ℕ) (place : ℕ) (rest : List ℕ) (fs : List NetFunction) → AreInOrder decls (front ++ place ∷ rest) fs → IsCutOrder decls front place fs
+cut_functions decls [] place rest [] h = absurd h
+cut_functions decls [] place rest (f ∷ fs) h = record { before = []; f = f; after = fs; is = refl; as_many = refl; decl = h.0.0; is_there = h.0.1; is_made = h.0.2 }
+cut_functions decls (p ∷ front) place rest [] h = absurd h
+cut_functions decls (p ∷ front) place rest (g ∷ fs) h =
+    let cut = cut_functions decls front place rest fs h.1 in
+    record {
+      before = g ∷ cut.before;
+      f = cut.f;
+      after = cut.after;
+      is = ap (λ l. g ∷ l) cut.is;
+      as_many = ap suc cut.as_many;
+      decl = cut.decl;
+      is_there = cut.is_there;
+      is_made = cut.is_made;
+    }
+
+stays_behind : (decls : List FunctionDecl) (dropper : FunctionDecl) (place : ℕ) (front rest : List ℕ) → slice_get decls place ≡ Some dropper → IsMadeToDrop true (function_of dropper) →
+    (fs : List NetFunction) → AreInOrder decls (front ++ place ∷ rest) fs → (packets : List Packet) → StaysBehind (length front) fs packets
+stays_behind decls dropper place front rest is_there drops fs made packets =
+    let cut = cut_functions decls front place rest fs made in
+    let found : Some dropper ≡ Some cut.decl = sym is_there ∙ cut.is_there in
+    let same : dropper ≡ cut.decl = cc in
+    let drops_it : DropsBy true cut.f = subst (IsMadeToDrop true) cut.is_made (subst (λ d. IsMadeToDrop true (function_of d)) same drops) in
+    record {
+      front = cut.before;
+      back = cut.f ∷ cut.after;
+      split = cut.is;
+      as_many = cut.as_many;
+      kept = subst (λ l. AreKept cut.before (cut.f ∷ cut.after) (functions_after net_behaviour l packets)) (sym cut.is) (all_kept cut.f drops_it cut.after cut.before packets);
+      gone = subst (λ l. All IsGone (fates net_behaviour l packets)) (sym cut.is) (all_gone cut.f drops_it cut.after cut.before packets);
+    }
+
 module _ (cuts : List Bool) (chains : List ChainPolicy) (orders : List Order) (accepted : AreAccepted chains) where
   accepted_one : (chain : ChainPolicy) (decl : FunctionDecl) → IsOne chains chain → IsOne chain.functions decl → refused_line decl ≡ None
   accepted_one chain decl of_chains of_chain =
@@ -160,14 +211,26 @@ module _ (cuts : List Bool) (chains : List ChainPolicy) (orders : List Order) (a
     so = needless h.decl (accepted_one h.chain h.decl h.of_chains h.of_chain) line by h.covered;
   }
 
+  -- the order up to the dropper
+  cut_order : (line by : ℕ) (h : IsNeverReached chains orders line by) →
+      order_at orders (length h.behind.before) ≡ h.behind.follows.among.front ++ h.behind.earlier ∷ (h.behind.follows.among.back ++ h.behind.later ∷ h.behind.follows.after)
+  cut_order line by h =
+      h.behind.follows.is
+      ∙ ap (λ places. places ++ h.behind.later ∷ h.behind.follows.after) h.behind.follows.among.is
+      ∙ append_assoc h.behind.follows.among.front (h.behind.earlier ∷ h.behind.follows.among.back) (h.behind.later ∷ h.behind.follows.after)
+
   shut_off : (line by : ℕ) → IsNeverReached chains orders line by → IsShutOff chains orders line by
-  shut_off line by h = record {
-    behind = h.behind;
-    dropper = h.dropper;
-    is_there = h.is_there;
-    drops = drops_each h.dropper
-        (accepted_one h.behind.chain h.dropper (record { front = h.behind.before; back = h.behind.after; is = h.behind.is }) (got_one h.behind.chain.functions h.behind.earlier h.dropper h.is_there)) h.filters h.passes_none;
-  }
+  shut_off line by h =
+      let drops : IsMadeToDrop true (function_of h.dropper) = drops_each h.dropper
+      (accepted_one h.behind.chain h.dropper (record { front = h.behind.before; back = h.behind.after; is = h.behind.is }) (got_one h.behind.chain.functions h.behind.earlier h.dropper h.is_there)) h.filters h.passes_none in
+      record {
+        behind = h.behind;
+        dropper = h.dropper;
+        is_there = h.is_there;
+        drops = drops;
+        stays = λ functions made packets. stays_behind h.behind.chain.functions h.dropper h.behind.earlier h.behind.follows.among.front (h.behind.follows.among.back ++ h.behind.later ∷ h.behind.follows.after) h.is_there drops functions
+            (subst (λ order. AreInOrder h.behind.chain.functions order functions) (cut_order line by h) made) packets;
+      }
 
   passing : (line : ℕ) → IsFunction (IsFirewall PassesAll line) chains → IsFunction (IsPassing line) chains
   passing line h = record {
