@@ -1,5 +1,5 @@
 -- A chain that is cut is one to which each function was added at its front.
-use Rattle.std.proofs.Common.{◌≡◌, ◌×◌, ◌∙◌, ⊥, Unit, absurd, Bool, true, false, cond, List, [], ◌∷◌, ◌++◌, ℕ, map, refl, ap, sym, subst}
+use Rattle.std.proofs.Common.{◌≡◌, ◌∙◌, Bool, true, false, cond, List, [], ◌∷◌, ◌++◌, ℕ, map, refl, ap, sym, subst}
 use Rattle.std.specs.Prelude.{◌||◌}
 use Rattle.std.specs.List.{flat_map, list_any}
 use Rattle.action_profile.specs.Profiles.{profile_of}

@@ -1,5 +1,5 @@
 -- The stages that a plan shows are those in which the pieces of a chain run.
-use Rattle.std.proofs.Common.{◌≡◌, ◌<◌, ◌×◌, ◌∙◌, ⊥, Unit, absurd, Bool, true, false, cond, ℕ, List, [], ◌∷◌, ◌++◌, length, map, refl, ap, sym, subst}
+use Rattle.std.proofs.Common.{◌≡◌, ◌<◌, ◌∙◌, Bool, true, false, cond, ℕ, List, [], ◌∷◌, ◌++◌, length, map, refl, ap, sym, subst}
 use Rattle.std.specs.Prelude.{◌||◌, All, Option, Some, None, slice_get}
 use Rattle.std.specs.List.{flat_map, list_any}
 use Rattle.std.specs.Option.{option_map_or}
@@ -128,7 +128,7 @@ apart true b none = absurd cc
 apart false b none = (refl, none)
 
 opposite : (b : Bool) → b ≡ true → b ≡ false → ⊥
-opposite b yes no = cc
+opposite b whole plain = cc
 
 named_profiled : (decls : List FunctionDecl) → list_any is_whole decls ≡ false → map named_behaviour.profile (flat_map named_of decls) ≡ map profile_declared decls
 named_profiled [] none = refl
