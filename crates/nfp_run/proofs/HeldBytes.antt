@@ -11,7 +11,7 @@ emptied : (o : Option (List ℕ)) (bytes : List ℕ) → option_map (λ before. 
 emptied None bytes = refl
 emptied (Some b) bytes = refl
 
-is_named : (text : List ℕ) (o : Option (List ℕ)) → o ≡ Some text → IsSome o
+pub is_named : (text : List ℕ) (o : Option (List ℕ)) → o ≡ Some text → IsSome o
 is_named text o h = search (rules, h)
 
 content_of : (slot : Slot) (text : List ℕ) (old mid : SlotView) → is_read slot ≡ false → Attaches slot text old mid → mid.bytes ≡ option_map (λ _. []) old.bytes

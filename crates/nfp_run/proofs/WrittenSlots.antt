@@ -1,5 +1,5 @@
 -- What Out and Report hold if a capture ran into them, or its run was broken off.
-use Rattle.std.proofs.Common.{◌≡◌, inl, inr, ℕ, List, refl, sym, subst}
+use Rattle.std.proofs.Common.{◌≡◌, ◌∙◌, inl, inr, ℕ, List, refl, ap, sym, subst}
 use Rattle.std.specs.Prelude.{Option, Some, None, IfOk, IfErr, IfSome, IsErrAnd, Result, Ok, Err}
 use Rattle.nfp_outside.specs.declared.slot.Slot.{Slot}
 use Rattle.nfp_outside.specs.declared.slot.Slot.TheVariants as slots
@@ -7,10 +7,10 @@ use Rattle.nfp_outside.specs.Outside.{SlotView, Attaches, KeepsSlot}
 use Rattle.capture_run.specs.CaptureReportProofs.{Ended}
 use Rattle.capture_run.specs.declared.fault.RunFault.{RunFault}
 use Rattle.capture_run.specs.Slots.{Puts, PutsPrefixes}
-use Rattle.nfp_run.specs.Answers.{Leaves, LeavesPrefixes}
+use Rattle.nfp_run.specs.Answers.{Leaves, LeavesPrefixes, ReportBehindOut}
 use Rattle.nfp_run.specs.Closing.{Left, LedPartly, LedWhole}
 use Rattle.nfp_run.specs.Written.{Led, Written, both}
-use Rattle.nfp_run.proofs.HeldBytes.{holds_all, holds_none, holds_prefix, untouched, untouched_same}
+use Rattle.nfp_run.proofs.HeldBytes.{is_named, holds_all, holds_none, holds_prefix, untouched, untouched_same}
 
 -- Out and Report were attached one after the other.
 pub record Attached (out_name report_name : List ℕ) (old first second : Slot → SlotView) : Type 0 where
@@ -68,3 +68,9 @@ report_unattached out_name left old first new (Err f) e is free attached same ke
       inr (holds_none slots.Out out_name led.written.out (old slots.Out) (new slots.Out) refl (subst (Attaches slots.Out out_name (old slots.Out)) (sym still) attached)),
       inl (untouched (old slots.Report) (new slots.Report) free (subst (λ v. KeepsSlot v (new slots.Report)) same keeps)),
     ))
+
+-- Report is attached only behind Out, which was attached first and keeps its name
+pub behind_run : (out_name : List ℕ) (left : Option Led) (old first mid new : Slot → SlotView) (r : Result Ended RunFault) → Attaches slots.Out out_name (old slots.Out) (first slots.Out) → mid slots.Out ≡ first slots.Out →
+    IfOk r (LedWhole left mid new) → IfErr r (LedPartly left mid new) → ReportBehindOut new
+behind_run out_name left old first mid new (Ok ended) attached still whole partly = inr (is_named out_name (new slots.Out).name (whole.goes.out_name ∙ ap (λ v. v.name) still ∙ attached.named))
+behind_run out_name left old first mid new (Err fault) attached still whole partly = inr (is_named out_name (new slots.Out).name (partly.goes.out_name ∙ ap (λ v. v.name) still ∙ attached.named))

@@ -6,7 +6,7 @@ use Rattle.nfp_run.specs.Closing.{Left}
 use Rattle.nfp_run.specs.Reading.{opened_led}
 use Rattle.nfp_run.proofs.OtherSlots.{out_is_not_report, report_is_not_out, capture_is_not_out, capture_is_not_report}
 use Rattle.nfp_run.specs.declared.read.Opened.TheVariants.{Pcap, Ng}
-use Rattle.nfp_run.proofs.WrittenSlots.{left_by_run, out_unattached, report_unattached}
+use Rattle.nfp_run.proofs.WrittenSlots.{behind_run, left_by_run, out_unattached, report_unattached}
 use Rattle.nfp_run.proofs.run.attach_and_run.Goals as goal
 
 pub returns-in-Pcap-clause-left : goal.returns-in-Pcap-clause-left
@@ -45,3 +45,11 @@ pub returns-in_err-attach_sink-2-clause-left : goal.returns-in_err-attach_sink-2
 returns-in_err-attach_sink-2-clause-left g c = report_unattached c.args.names.now.out.now _ (g.D.Desk.slots c.args.desk.now) (g.D.Desk.slots c.attach_sink.new.desk) (g.D.Desk.slots c.attach_sink-2.new.desk)
     c.from_residual-in_err-attach_sink-2.result c.in_err-attach_sink-2.field-0.0 c.from_residual-in_err-attach_sink-2.ensures.1 c.requires.report_free c.in_ok-attach_sink.ensures.ok (c.attach_sink.ensures.others Report report_is_not_out)
     c.in_err-attach_sink-2.ensures.err.keeps (c.attach_sink-2.ensures.others Out out_is_not_report)
+
+pub returns-in-Pcap-clause-report_behind : goal.returns-in-Pcap-clause-report_behind
+returns-in-Pcap-clause-report_behind g c = behind_run c.args.names.now.out.now _ (g.D.Desk.slots c.args.desk.now) (g.D.Desk.slots c.attach_sink.new.desk) (g.D.Desk.slots c.attach_sink-2.new.desk) (g.D.Desk.slots c.run_pcap.new.desk) c.run_pcap.result
+    c.in_ok-attach_sink.ensures.ok (c.attach_sink-2.ensures.others Out out_is_not_report) c.run_pcap.ensures.ok c.run_pcap.ensures.err
+
+pub returns-in-Ng-clause-report_behind : goal.returns-in-Ng-clause-report_behind
+returns-in-Ng-clause-report_behind g c = behind_run c.args.names.now.out.now _ (g.D.Desk.slots c.args.desk.now) (g.D.Desk.slots c.attach_sink.new.desk) (g.D.Desk.slots c.attach_sink-2.new.desk) (g.D.Desk.slots c.run_ng.new.desk) c.run_ng.result
+    c.in_ok-attach_sink.ensures.ok (c.attach_sink-2.ensures.others Out out_is_not_report) c.run_ng.ensures.ok c.run_ng.ensures.err
