@@ -1,4 +1,7 @@
 // A desk over files: what the files hold, and what is refused.
+ghost use Rattle.std.specs.Prelude.{◌≡◌, ◌≢◌, IsSome};
+ghost use Rattle.nfp_outside.specs.declared.slot.Slot.{Slot};
+
 use crate::plenty::had;
 use file_desk::{FileDesk, Host, Identity, OutputFile, Stream, System};
 use nfp_outside::{Desk, DeskFault, Slot, write_whole};
@@ -91,6 +94,16 @@ impl<F: OutputFile> OutputFile for SlowFile<F> {
     }
 }
 
+// Puts more into Out than a desk gathers. The first call takes three bytes, and says so.
+fn puts_slowly<D: Desk>(desk: &mut D) -> bool
+    requires attached { IsSome (D.slots desk.old Slot.Out).name }
+    ensures others { (s : Slot) → s ≢ Slot.Out → D.slots desk.new s ≡ D.slots desk.old s }
+{
+    let first = desk.write(Slot::Out, &LONG);
+    let rest = write_whole(desk, Slot::Out, &LONG[3..]);
+    first == Ok(3) && rest == Ok(())
+}
+
 #[test]
 fn a_file_that_takes_a_few_bytes_gets_them_all(rt: HostRuntime) {
     let (out, report) = ("a_slow_out", "a_slow_report");
@@ -98,10 +111,8 @@ fn a_file_that_takes_a_few_bytes_gets_them_all(rt: HostRuntime) {
     let mut desk = FileDesk::new(Slow { system });
     had(&rt, desk.attach(Slot::Out, out));
     had(&rt, desk.attach(Slot::Report, report));
-    // The first call takes three bytes, and says so.
-    assert_eq!(rt; desk.write(Slot::Out, &LONG), Ok(3));
-    assert_eq!(rt; write_whole(&mut desk, Slot::Out, &LONG[3..]), Ok(()));
     assert_eq!(rt; write_whole(&mut desk, Slot::Report, LINE), Ok(()));
+    assert!(rt; puts_slowly(&mut desk));
     // Once a line is printed, all that was put is in the files.
     assert_eq!(rt; desk.write(Slot::Note, b"done"), Ok(4));
     assert!(rt; had(&rt, fs::read(&rt, out)).as_slice() == LONG.as_slice());
