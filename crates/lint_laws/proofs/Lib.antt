@@ -1,5 +1,7 @@
 pub mod Accepted
+pub mod BalancerLines
 pub mod DoAlike
+pub mod EntryLines
 pub mod FirewallLines
 pub mod Keyed
 pub mod LimiterLines

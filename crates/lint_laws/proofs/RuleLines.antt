@@ -25,7 +25,7 @@ use Rattle.nf_mark.specs.MarkerLines.{is_seen as marker_sees, rule_of as mark_ru
 use Rattle.nf_mark.specs.NexthopLines.{rule_of as hop_rule, line_of as nexthop_line}
 use Rattle.nf_mark.specs.TaggerLines.{is_seen as tagger_sees, rule_of as tag_rule, line_of as tagger_line}
 use Rattle.policy_lint.specs.declared.rule_line.RuleLine.{RuleLine}
-use Rattle.policy_lint.specs.Rules.{word_of, marker_fit, tagger_fit, nexthop_fit, rule_fit, rule_of}
+use Rattle.policy_lint.specs.Rules.{marker_fit, tagger_fit, nexthop_fit, rule_fit, rule_of}
 use Rattle.lint_laws.specs.Reading.{read_rule}
 use Rattle.lint_laws.proofs.Accepted.{AreSaid}
 use Rattle.lint_laws.proofs.FirewallLines.{rule_in, rule_read}
@@ -40,14 +40,14 @@ fit_kept line owner allows None = refl
 fit_kept line owner allows (Some fit) = refl
 
 pub fit_of_rule : (kind : Kind) (owner : ℕ) (s : Setting) → option_map (λ (r : RuleLine). r.fit) (rule_of kind owner s) ≡ rule_fit kind s.words
-fit_of_rule kind owner s = fit_kept s.line owner (bytes_eq (word_of s.words 1) (codes "allow")) (rule_fit kind s.words)
+fit_of_rule kind owner s = fit_kept s.line owner _ (rule_fit kind s.words)
 
 line_kept : (line owner : ℕ) (allows : Bool) (o : Option Match) (r : RuleLine) → option_map (numbered line owner allows) o ≡ Some r → line ≡ r.line
 line_kept line owner allows None r h = absurd cc
 line_kept line owner allows (Some fit) r h = let same : numbered line owner allows fit ≡ r = cc in ap (λ (x : RuleLine). x.line) same
 
 pub line_of_rule : (kind : Kind) (owner : ℕ) (s : Setting) (r : RuleLine) → rule_of kind owner s ≡ Some r → s.line ≡ r.line
-line_of_rule kind owner s r h = line_kept s.line owner (bytes_eq (word_of s.words 1) (codes "allow")) (rule_fit kind s.words) r h
+line_of_rule kind owner s r h = line_kept s.line owner _ (rule_fit kind s.words) r h
 
 -- Firewalls.
 read_kept : (o : Option RuleLine) → option_map (λ (r : RuleLine). r.fit) o ≡ option_map (λ (r : Rule). r.fit) (option_map read_rule o)
@@ -155,7 +155,7 @@ no_rule_in kind = (words : List (List ℕ)) → rule_fit kind words ≡ None
 
 pub no_rules : (kind : Kind) → no_rule_in kind → (owner : ℕ) (settings : List Setting) → map (λ (r : RuleLine). r.fit) (filter_map (rule_of kind owner) settings) ≡ []
 no_rules kind none owner settings =
-    ap (map (λ (r : RuleLine). r.fit)) (none_given (rule_of kind owner) settings (λ s. ap (option_map (numbered s.line owner (bytes_eq (word_of s.words 1) (codes "allow")))) (none s.words)))
+    ap (map (λ (r : RuleLine). r.fit)) (none_given (rule_of kind owner) settings (λ s. ap (option_map (numbered s.line owner _)) (none s.words)))
 
 pub none_either : (b : Bool) (o : Option Match) → o ≡ None → (if b then o else None) ≡ None
 none_either true o none = none

@@ -1,10 +1,12 @@
--- For proofs: the rules, the patterns and the burst of a function that was made.
+-- For proofs: the rules, the patterns, the burst and the addresses of a function that was made.
 use Rattle.std.specs.Prelude.{ℕ, List, [], map, Option, Some, None}
+use Rattle.std.specs.declared.net.ip_addr.IpAddr.{IpAddr}
+use Rattle.std.specs.declared.net.ipv4_addr.Ipv4Addr.{Ipv4Addr}
 use Rattle.policy_text.specs.declared.clause.Match.{Match}
 use Rattle.net_functions.specs.declared.net_function.NetFunction.{NetFunction}
-use Rattle.net_functions.specs.declared.net_function.NetFunction.TheVariants.{Firewall, Limiter, Marker, Tagger, Signature, Nexthop, Redactor}
+use Rattle.net_functions.specs.declared.net_function.NetFunction.TheVariants.{Firewall, Balancer, Limiter, Marker, Tagger, Signature, Nexthop, Redactor}
 use Rattle.net_functions.specs.declared.making.Made.{Made}
-use Rattle.net_functions.specs.declared.making.Made.TheVariants.{Function}
+use Rattle.net_functions.specs.declared.making.Made.TheVariants.{Function, Encap}
 
 -- the clauses of its rules, of which the first that a packet meets decides, rule by rule
 abbrev pub fits_in : NetFunction → List Match
@@ -36,3 +38,21 @@ burst_in f = None
 abbrev pub made_burst : Made → Option ℕ
 made_burst (Function f) = burst_in f
 made_burst made = None
+
+-- a balancer's virtual address
+abbrev pub virtual_in : NetFunction → Option IpAddr
+virtual_in (Balancer b) = Some b.settings.virtual_address
+virtual_in f = None
+
+abbrev pub made_virtual : Made → Option IpAddr
+made_virtual (Function f) = virtual_in f
+made_virtual made = None
+
+-- the ends of a tunnel at its entry
+abbrev pub made_entry : Made → Option Ipv4Addr
+made_entry (Encap e) = Some e.entry
+made_entry made = None
+
+abbrev pub made_exit : Made → Option Ipv4Addr
+made_exit (Encap e) = Some e.exit
+made_exit made = None

@@ -1,6 +1,6 @@
 //! What findings are worth for packets.
 
-ghost use Rattle.std.specs.Prelude.{◌≡◌, ◌≢◌, [], ◌∷◌, ◌++◌, List, Bool, true, Some, None, All};
+ghost use Rattle.std.specs.Prelude.{◌≡◌, ◌≢◌, [], ◌∷◌, ◌++◌, List, Bool, true, Some, None, All, codes};
 ghost use Rattle.std.specs.Option.{option_map};
 ghost use Rattle.action_profile.specs.declared.kind.Kind.TheVariants as kinds;
 ghost use Rattle.policy_text.specs.declared.policy.ChainPolicy.{ChainPolicy};
@@ -19,9 +19,9 @@ ghost use Rattle.policy_lint.specs.Meaning.{IsOne};
 ghost use Rattle.policy_lint.specs.Nats.{nat_of};
 ghost use Rattle.policy_lint.specs.Patterns.{text_of};
 ghost use Rattle.lint_laws.specs.Alike.{AreAlike, DropsBy};
-ghost use Rattle.lint_laws.specs.Made.{made_burst, made_fits, made_patterns};
+ghost use Rattle.lint_laws.specs.Made.{made_burst, made_entry, made_exit, made_fits, made_patterns, made_virtual};
 ghost use Rattle.lint_laws.specs.OfPackets.{AreAccepted, IsSoOfPackets};
-ghost use Rattle.lint_laws.specs.Reading.{read_firewall, read_fits, read_nat};
+ghost use Rattle.lint_laws.specs.Reading.{read_end, read_firewall, read_fits, read_nat, read_virtual};
 ghost use Rattle.lint_laws.specs.Walks.{IsGone, AreKept};
 
 use policy_lint::findings_are_true;
@@ -49,6 +49,17 @@ pub fn bursts_are_made_as_read()
     ensures { (decl : FunctionDecl) → refused_line decl ≡ None → made_burst (function_of decl) ≡ option_map (λ burst. burst.1) (burst_of decl) }
 {}
 
+/// A law: the balancer that is made of a declaration without a refused line has the virtual address that findings read.
+pub fn virtual_addresses_are_made_as_read()
+    ensures { (decl : FunctionDecl) → decl.kind ≡ kinds.Balancer → refused_line decl ≡ None → made_virtual (function_of decl) ≡ read_virtual decl }
+{}
+
+/// A law: the entry of a tunnel that is made of a declaration without a refused line has the ends that findings read.
+pub fn ends_are_made_as_read()
+    ensures entry { (decl : FunctionDecl) → decl.kind ≡ kinds.Encap → refused_line decl ≡ None → made_entry (function_of decl) ≡ read_end (codes "entry") decl }
+    ensures exit { (decl : FunctionDecl) → decl.kind ≡ kinds.Encap → refused_line decl ≡ None → made_exit (function_of decl) ≡ read_end (codes "exit") decl }
+{}
+
 /// A law: a text that findings read of a line is a pattern of the signature or of the redactor that is made.
 pub fn patterns_are_made_as_read()
     ensures { (decl : FunctionDecl) → (s : Setting) → refused_line decl ≡ None → IsOne decl.settings s → text_of decl.kind s ≢ [] → IsOne (made_patterns (function_of decl)) (text_of decl.kind s) }
@@ -56,7 +67,8 @@ pub fn patterns_are_made_as_read()
 
 /// A law: of a policy without refused lines, findings are so of the functions that are made. A rule that one before it covers
 /// may go: without its line the function decides and writes the same for every packet. A firewall that is said to drop every
-/// packet, or none, does so, and before a function that is said not to be reached stands one that drops every packet.
+/// packet, or none, does so. Before a function that is said not to be reached stands one that drops every packet, so that in a
+/// chain that rewrites no packet whole it stays as it is made.
 pub fn findings_are_so_of_packets()
     ensures { (cuts : List Bool) → (chains : List ChainPolicy) → (orders : List Order) → AreAccepted chains → All (IsSoOfPackets chains orders) (findings cuts chains orders) }
 {

@@ -4,9 +4,9 @@
 //! stand on that reading and on the functions that are made of the same lines, if none of the lines is refused.
 //!
 //! Functions are made as findings read them: a firewall with these rules and this default ([`firewalls_are_made_as_read`]), markers,
-//! taggers and nexthops with rules of these clauses ([`rules_are_made_as_read`]), and nats, limiters, signatures and redactors with
-//! what is read of their lines ([`nats_are_made_as_read`], [`bursts_are_made_as_read`], [`patterns_are_made_as_read`]). A reading of
-//! `allow` as `deny` contradicts the first of these laws.
+//! taggers and nexthops with rules of these clauses ([`rules_are_made_as_read`]), and the other kinds with what is
+//! read of their lines ([`nats_are_made_as_read`], [`virtual_addresses_are_made_as_read`], [`ends_are_made_as_read`],
+//! [`bursts_are_made_as_read`], [`patterns_are_made_as_read`]). A reading of `allow` as `deny` contradicts the first of these laws.
 //!
 //! So findings hold of packets ([`findings_are_so_of_packets`]). A rule that one before it covers may go: without its line the
 //! function decides and writes the same, and so each packet ends the same ([`alike_functions_walk_alike`]). A firewall that is said
@@ -19,7 +19,8 @@
 mod laws;
 
 pub use laws::{
-    alike_functions_walk_alike, bursts_are_made_as_read, findings_are_so_of_packets,
-    firewalls_are_made_as_read, functions_behind_stay, nats_are_made_as_read,
-    patterns_are_made_as_read, rules_are_made_as_read,
+    alike_functions_walk_alike, bursts_are_made_as_read, ends_are_made_as_read,
+    findings_are_so_of_packets, firewalls_are_made_as_read, functions_behind_stay,
+    nats_are_made_as_read, patterns_are_made_as_read, rules_are_made_as_read,
+    virtual_addresses_are_made_as_read,
 };
