@@ -30,6 +30,6 @@ pub use report::{
 
 // The service and the walk of a burst through it, for the crates above.
 pub use burst_walk::{
-    Function, MergeWay, Mergers, Merging, NamedFunction, Piece, Service, ServiceChain,
+    MergeWay, Mergers, Merging, NamedFunction, Piece, Service, ServiceChain,
     bursts_are_counted_in_a_row, make_service, walk_burst,
 };

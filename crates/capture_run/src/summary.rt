@@ -14,10 +14,11 @@ ghost use Rattle.capture_run.specs.Slots.{Breaks, Gathers, Puts};
 use crate::fault::RunFault;
 use crate::write::put_text;
 use capture_report::{
-    Ended, Function, NamedFunction, Piece, ServiceChain, Totals, function_named, push_copies_lines,
+    Ended, NamedFunction, Piece, ServiceChain, Totals, function_named, push_copies_lines,
     push_function_line, push_last_line, push_totals_line,
 };
 use nfp_outside::Desk;
+use packet_function::Function;
 use policy_text::{ChainPolicy, FunctionDecl};
 use std::alloc::{AllocError, Global};
 

@@ -11,7 +11,7 @@ use Rattle.policy_text.specs.Names.{names_at}
 use Rattle.policy_text.specs.declared.policy.ChainPolicy.{ChainPolicy}
 use Rattle.policy_judge.specs.Making.{functions_made}
 use Rattle.policy_judge.specs.Orders.{IsOrdered}
-use Rattle.segment_run.specs.NetFunctions.{Made}
+use Rattle.net_functions.specs.declared.making.Made.{Made}
 use Rattle.chain_service.specs.Opening.{IsOpeningChain, pieces_in}
 use Rattle.graph_compile.specs.declared.graph.Graph.{Graph as StagedGraph}
 use Rattle.chain_service.specs.Fitting.{FitAll}

@@ -6,7 +6,7 @@ use Rattle.std.specs.Option.{option_map_or}
 use Rattle.std.proofs.lemmas.List.{drop_all, drop_more}
 use Rattle.policy_text.specs.declared.policy.FunctionDecl.{FunctionDecl}
 use Rattle.piece_walk.specs.Pieces.{Piece}
-use Rattle.segment_run.specs.NetFunctions.{function_of}
+use Rattle.net_functions.specs.Builds.{function_of}
 use Rattle.segment_run.specs.Segments.{pieces_of}
 use Rattle.chain_service.specs.Cutting.{GoesOn, closed, cut_with, joined, with_all, with_declared, with_made}
 use Rattle.chain_service.specs.Services.{declared_at, pieces_at}

@@ -8,9 +8,10 @@ use Rattle.action_profile.specs.declared.kind.Kind.TheVariants as kinds
 use Rattle.policy_text.specs.declared.policy.FunctionDecl.{FunctionDecl}
 use Rattle.graph_compile.specs.Cutting.{cut, in_front}
 use Rattle.piece_walk.specs.Pieces.{Piece}
-use Rattle.segment_run.specs.NetFunctions.{Made, function_of, making_of}
-use Rattle.segment_run.specs.NetFunctionsProofs.{NetFunction}
-use Rattle.segment_run.specs.MadeVariants as made
+use Rattle.net_functions.specs.Builds.{function_of, making_of}
+use Rattle.net_functions.specs.declared.making.Made.{Made}
+use Rattle.net_functions.specs.declared.net_function.NetFunction.{NetFunction}
+use Rattle.net_functions.specs.declared.making.Made.TheVariants as made
 use Rattle.chain_service.specs.Cutting.{joined, with_first, with_made}
 use Rattle.chain_service.specs.Services.{compiled, is_whole, named, named_of, piece_among, piece_by, pieces_among}
 use Rattle.chain_service.specs.declared.named.NamedFunction.{NamedFunction}

@@ -3,9 +3,9 @@ use Rattle.std.proofs.Common.{◌≡◌, ◌∙◌, ℕ, List, [], ◌∷◌, �
 use Rattle.std.specs.Prelude.{IfOk, Result, Ok, Err}
 use Rattle.std.proofs.lemmas.List.{append_assoc, length_push}
 use Rattle.piece_walk.specs.Pieces.{Piece, Whole}
-use Rattle.segment_run.specs.NetFunctions.{Made}
-use Rattle.segment_run.specs.MadeVariants as made
-use Rattle.segment_run.specs.NetFunctionsProofs.{NetFunction}
+use Rattle.net_functions.specs.declared.making.Made.{Made}
+use Rattle.net_functions.specs.declared.making.Made.TheVariants as made
+use Rattle.net_functions.specs.declared.net_function.NetFunction.{NetFunction}
 use Rattle.nf_tunnel.specs.Tunnels.{encapsulated, decapsulated}
 use Rattle.nf_tunnel.specs.declared.decap.Decap.{Decap}
 use Rattle.nf_tunnel.specs.declared.encap.Encap.{Encap}

@@ -11,8 +11,9 @@ use Rattle.policy_check.specs.declared.fault.Order.{Order}
 use Rattle.policy_text.specs.declared.policy.ChainPolicy.{ChainPolicy}
 use Rattle.policy_text.specs.declared.policy.FunctionDecl.{FunctionDecl}
 use Rattle.policy_judge.specs.Orders.{IsOrdered}
-use Rattle.segment_run.specs.NetFunctions.{Made, function_of}
-use Rattle.segment_run.specs.MadeVariants as made
+use Rattle.net_functions.specs.Builds.{function_of}
+use Rattle.net_functions.specs.declared.making.Made.{Made}
+use Rattle.net_functions.specs.declared.making.Made.TheVariants as made
 use Rattle.nf_tunnel.specs.Tunnels.{encapsulated, decapsulated}
 use Rattle.piece_walk.specs.Pieces.{Piece, Graph, Whole, count_of}
 use Rattle.segment_run.specs.Segments.{functions_count}

@@ -10,8 +10,9 @@ use Rattle.graph_compile.specs.Cutting.{cut, in_front}
 use Rattle.graph_compile.specs.Stages.{graph_of}
 use Rattle.graph_text.specs.Chains.{profiles_in}
 use Rattle.plan_text.specs.Plan.{is_whole_at}
-use Rattle.segment_run.specs.NetFunctions.{Made, function_of}
-use Rattle.segment_run.specs.MadeVariants as made
+use Rattle.net_functions.specs.Builds.{function_of}
+use Rattle.net_functions.specs.declared.making.Made.{Made}
+use Rattle.net_functions.specs.declared.making.Made.TheVariants as made
 use Rattle.chain_service.specs.NamedFunctions.{named_behaviour}
 use Rattle.chain_service.specs.Services.{declared_at, is_whole, named_of, piece_among, piece_by, pieces_at}
 use Rattle.chain_service.specs.Shown.{stages_run, stages_shown}

@@ -9,7 +9,8 @@ use Rattle.std.proofs.lemmas.List.Sums.{sum_by-cons, sum_by_more_le}
 use Rattle.std.proofs.lemmas.List.Sorted.{sum_by-IsPermutation}
 use Rattle.std.proofs.lemmas.Bool.Decides.{nat_tests}
 use Rattle.policy_text.specs.declared.policy.FunctionDecl.{FunctionDecl}
-use Rattle.segment_run.specs.NetFunctions.{Made, function_of}
+use Rattle.net_functions.specs.Builds.{function_of}
+use Rattle.net_functions.specs.declared.making.Made.{Made}
 use Rattle.policy_judge.specs.Making.{place_of}
 use Rattle.chain_service.specs.Cutting.{GoesOn, cut_with, with_declared, with_made}
 use Rattle.chain_service.specs.Taking.{without, without_all}

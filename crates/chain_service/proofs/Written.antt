@@ -12,8 +12,10 @@ use Rattle.graph_compile.specs.Facts.{IsFull, IsLawful}
 use Rattle.graph_compile.specs.declared.graph.Graph.{Graph as StagedGraph}
 use Rattle.segment_run.specs.GraphRun.{profiles_of}
 use Rattle.graph_text.specs.Chains.{profiles_in}
-use Rattle.segment_run.specs.NetFunctions.{Made, function_of, making_of, net_behaviour, profile_by}
-use Rattle.segment_run.specs.MadeVariants as made
+use Rattle.net_functions.specs.Builds.{function_of, making_of}
+use Rattle.net_functions.specs.NetFunctions.{net_behaviour, profile_by}
+use Rattle.net_functions.specs.declared.making.Made.{Made}
+use Rattle.net_functions.specs.declared.making.Made.TheVariants as made
 use Rattle.nf_tunnel.specs.Tunnels.{encapsulated, decapsulated}
 use Rattle.piece_walk.specs.Pieces.{Piece, Graph, Whole}
 use Rattle.policy_check.specs.declared.fault.Order.{Order}

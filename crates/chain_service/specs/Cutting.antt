@@ -2,8 +2,9 @@
 use Rattle.std.specs.Prelude.{◌≡◌, ◌≤◌, ◌+◌, ℕ, List, [], ◌∷◌, ◌++◌, length, slice_get}
 use Rattle.std.specs.Option.{option_map_or}
 use Rattle.policy_text.specs.declared.policy.FunctionDecl.{FunctionDecl}
-use Rattle.segment_run.specs.NetFunctions.{Made, function_of}
-use Rattle.segment_run.specs.MadeVariants as made
+use Rattle.net_functions.specs.Builds.{function_of}
+use Rattle.net_functions.specs.declared.making.Made.{Made}
+use Rattle.net_functions.specs.declared.making.Made.TheVariants as made
 use Rattle.nf_tunnel.specs.Tunnels.{encapsulated, decapsulated}
 use Rattle.piece_walk.specs.Pieces.{Piece, Graph, Whole}
 use Rattle.segment_run.specs.Segments.{pieces_of}

@@ -1,7 +1,7 @@
 -- For proofs: functions with their names do what their profiles say, and no more.
 use Rattle.std.proofs.Common.{ap}
 use Rattle.chain_walk.specs.Laws.{KeepsProfile}
-use Rattle.segment_run.specs.NetFunctionsProofs.{net_keeps}
+use Rattle.net_functions.specs.NetFunctionLaws.{net_keeps}
 use Rattle.chain_service.specs.NamedFunctions.{named_behaviour}
 
 pub named_keeps : KeepsProfile named_behaviour

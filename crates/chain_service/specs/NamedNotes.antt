@@ -4,9 +4,9 @@ use Rattle.std.proofs.Common.{◌∙◌, ap}
 use Rattle.chain_walk.specs.Notes.{Notes, settled, noted, CountsByNotes}
 use Rattle.chain_walk.specs.Step.{Step, nothing}
 use Rattle.chain_walk.specs.declared.verdict.Verdict.TheVariants as verdicts
-use Rattle.nf_observe.specs.declared.note.FlowNote.{FlowNote}
-use Rattle.segment_run.specs.NetFunctions.{net_behaviour}
-use Rattle.segment_run.specs.NetFunctionsProofs.{net_counts, net_notes}
+use Rattle.packet_function.specs.declared.note.FlowNote.{FlowNote}
+use Rattle.net_functions.specs.NetFunctions.{net_behaviour}
+use Rattle.net_functions.specs.NetNotes.{net_counts, net_notes}
 use Rattle.chain_service.specs.NamedFunctions.{named_behaviour}
 use Rattle.chain_service.specs.declared.named.NamedFunction.{NamedFunction}
 

@@ -15,8 +15,9 @@ use Rattle.graph_compile.specs.declared.graph.Graph.{Graph as StagedGraph}
 use Rattle.graph_compile.specs.declared.graph.Stage.{Stage}
 use Rattle.graph_text.specs.Graphs.{no_graph}
 use Rattle.policy_text.specs.Names.{names_at}
-use Rattle.segment_run.specs.NetFunctions.{Made, function_of}
-use Rattle.segment_run.specs.MadeVariants as made
+use Rattle.net_functions.specs.Builds.{function_of}
+use Rattle.net_functions.specs.declared.making.Made.{Made}
+use Rattle.net_functions.specs.declared.making.Made.TheVariants as made
 use Rattle.nf_tunnel.specs.Tunnels.{encapsulated, decapsulated}
 use Rattle.piece_walk.specs.Pieces.{Piece, Graph, Whole}
 use Rattle.chain_service.specs.NamedFunctions.{named_behaviour}

@@ -1,6 +1,6 @@
 -- For proofs: the lines in which a function with its name reports its state, each by itself.
 use Rattle.std.specs.Prelude.{ℕ, List}
-use Rattle.segment_run.specs.NetFunctionsProofs.{rows_of}
+use Rattle.net_functions.specs.StateRows.{rows_of}
 use Rattle.chain_service.specs.declared.named.NamedFunction.{NamedFunction}
 
 abbrev pub named_rows : NamedFunction → List (List ℕ)

@@ -1,6 +1,6 @@
 -- For proofs: functions that are taken out of those that were made.
 use Rattle.std.specs.Prelude.{ℕ, List, Option, None, fold, slice_set}
-use Rattle.segment_run.specs.NetFunctions.{Made}
+use Rattle.net_functions.specs.declared.making.Made.{Made}
 
 -- what is left if the function at this place is taken
 abbrev pub without : List (Option Made) → ℕ → List (Option Made)

@@ -6,8 +6,10 @@ ghost use Rattle.chain_service.specs.Services.{stages_of};
 use crate::named::NamedFunction;
 use action_profile::Profile;
 use graph_compile::compile;
+use net_functions::Made;
+use packet_function::Function;
 use policy_text::Name;
-use segment_run::{Function, Made, Piece, Running};
+use segment_run::{Piece, Running};
 use std::alloc::{AllocError, Global};
 
 /// A chain that is cut up to some function: the complete pieces, and the functions after them, which belong to the next

@@ -24,5 +24,5 @@ pub use service::{Service, ServiceChain, make_service};
 
 // The pieces of chains and the ways to run them, for the crates above.
 pub use segment_run::{
-    Function, MergeWay, Piece, bursts_are_counted_in_a_row, piece_grows_little, run_pieces,
+    MergeWay, Piece, bursts_are_counted_in_a_row, piece_grows_little, run_pieces,
 };

@@ -1,9 +1,10 @@
 //! A function with its name.
 
 use action_profile::Profile;
+use net_functions::NetFunction;
+use packet_function::{FlowNote, Function};
 use packet_version::{Verdict, View};
 use policy_text::Name;
-use segment_run::{FlowNote, Function, NetFunction};
 use std::alloc::{AllocError, Global};
 
 /// A function with its name.

@@ -18,11 +18,12 @@ use crate::pieces::ChainPieces;
 use classifier::ClassTable;
 use graph_compile::Graph;
 use item_list::Items;
+use net_functions::Made;
 use packet_version::Tally;
 use policy_check::Order;
 use policy_judge::Judged;
 use policy_text::{ChainPolicy, FunctionDecl, Name, Policy, name_at};
-use segment_run::{Made, Piece};
+use segment_run::Piece;
 use std::alloc::{AllocError, Global};
 
 /// A chain that runs: its declaration; the names of its functions, in the order in which a packet goes through them;

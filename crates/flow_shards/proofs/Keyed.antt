@@ -6,8 +6,8 @@ use Rattle.std.proofs.lemmas.List.Elements.{All-head, All-tail, All-map, All-pus
 use Rattle.first_sight.specs.FirstSight.{is_seen, belonging, with_value}
 use Rattle.flow_line.specs.Versions.{FitsVersion, HasFittingKey}
 use Rattle.flow_line.specs.declared.line.FlowLine.{FlowLine}
-use Rattle.nf_observe.specs.SameFlow.{is_same_flow}
-use Rattle.nf_observe.specs.declared.flow.FiveTuple.{FiveTuple}
+use Rattle.packet_function.specs.SameFlow.{is_same_flow}
+use Rattle.packet_function.specs.declared.flow.FiveTuple.{FiveTuple}
 use Rattle.flow_shards.specs.Flows.{Lines, counted, counted_all, first_line, with_sight, key_of}
 use Rattle.flow_shards.specs.Sharding.{HasFittingFlow, IsKeyed, in_shard, is_in_shard, shard_of}
 use Rattle.flow_shards.specs.declared.sight.Sight.{Sight}

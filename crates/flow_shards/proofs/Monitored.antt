@@ -13,8 +13,8 @@ use Rattle.flow_line.specs.declared.key.FlowKey.{FlowKey}
 use Rattle.flow_line.specs.declared.line.FlowLine.{FlowLine}
 use Rattle.nf_observe.specs.Counting.{flows_with}
 use Rattle.nf_observe.specs.Flows.{with_packet, no_packets, counted as counted_by_monitor}
-use Rattle.nf_observe.specs.SameFlow.{is_same_flow}
-use Rattle.nf_observe.specs.declared.flow.FiveTuple.{FiveTuple}
+use Rattle.packet_function.specs.SameFlow.{is_same_flow}
+use Rattle.packet_function.specs.declared.flow.FiveTuple.{FiveTuple}
 use Rattle.nf_observe.specs.declared.flow.FlowCounts.{FlowCounts}
 use Rattle.flow_shards.specs.Flows.{Lines, first_line, with_sight, counted, counted_all, flows_from, sight_of}
 use Rattle.flow_shards.specs.Monitoring.{counts_in, shown}

@@ -6,7 +6,7 @@ use Rattle.std.proofs.Math.Nat.{mod-lt}
 use Rattle.std.proofs.lemmas.Bool.{le-leb, lt-leb}
 use Rattle.std.proofs.lemmas.Bool.Decides.{eqb_tells}
 use Rattle.flow_line.specs.declared.line.FlowLine.{FlowLine}
-use Rattle.nf_observe.specs.declared.flow.FiveTuple.{FiveTuple}
+use Rattle.packet_function.specs.declared.flow.FiveTuple.{FiveTuple}
 use Rattle.flow_shards.specs.Flows.{Lines, key_of}
 use Rattle.flow_shards.specs.Sharding.{shard_of, in_shard, parts, flat, placed, in_order, IsRising}
 

@@ -2,8 +2,8 @@
 use Rattle.std.proofs.Common.{◌≡◌, ◌∙◌, ℕ, List, [], ◌∷◌, filter, Bool, true, false, refl, sym, ap}
 use Rattle.std.specs.Prelude.{◌==◌, if◌then◌else◌, unwrap_or}
 use Rattle.first_sight.specs.FirstSight.{belonging, noted}
-use Rattle.nf_observe.specs.SameFlow.{is_same_flow}
-use Rattle.nf_observe.specs.declared.flow.FiveTuple.{FiveTuple}
+use Rattle.packet_function.specs.SameFlow.{is_same_flow}
+use Rattle.packet_function.specs.declared.flow.FiveTuple.{FiveTuple}
 use Rattle.flow_line.specs.declared.line.FlowLine.{FlowLine}
 use Rattle.flow_shards.specs.Flows.{Lines, first_line, with_sight, counted, counted_all}
 use Rattle.flow_shards.specs.Sharding.{has_flow, in_shard, is_own, counted_if_own}

@@ -13,9 +13,9 @@ use Rattle.classifier.specs.declared.burst.Item.{Item}
 use Rattle.first_sight.specs.FirstSight.{is_seen, belonging, with_value}
 use Rattle.first_sight.proofs.Noting.{keys_noted}
 use Rattle.flow_line.specs.declared.line.FlowLine.{FlowLine}
-use Rattle.nf_observe.specs.SameFlow.{is_same_flow}
-use Rattle.nf_observe.specs.SameFlowLaws.{same_flow}
-use Rattle.nf_observe.specs.declared.flow.FiveTuple.{FiveTuple}
+use Rattle.packet_function.specs.SameFlow.{is_same_flow}
+use Rattle.packet_function.specs.SameFlowLaws.{same_flow}
+use Rattle.packet_function.specs.declared.flow.FiveTuple.{FiveTuple}
 use Rattle.flow_shards.specs.Flows.{Lines, counted, counted_all, first_line, with_sight, flow_in, sight_by, sight_of, flows_from}
 use Rattle.flow_shards.specs.Sharding.{IsRising, AreOrdered, AreRising, last_of}
 use Rattle.flow_shards.specs.declared.sight.Sight.{Sight}

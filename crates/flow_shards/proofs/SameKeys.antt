@@ -10,9 +10,9 @@ use Rattle.std.proofs.lemmas.Bool.{eqb-true}
 use Rattle.std.specs.declared.net.ip_addr.IpAddr.{IpAddr}
 use Rattle.std.specs.declared.net.ip_addr.IpAddr.TheVariants.{V4, V6}
 use Rattle.first_sight.specs.SameAddress.{is_same_address}
-use Rattle.nf_observe.specs.SameFlow.{is_same_flow, is_same_endpoint}
-use Rattle.nf_observe.specs.declared.flow.Endpoint.{Endpoint}
-use Rattle.nf_observe.specs.declared.flow.FiveTuple.{FiveTuple}
+use Rattle.packet_function.specs.SameFlow.{is_same_flow, is_same_endpoint}
+use Rattle.packet_function.specs.declared.flow.Endpoint.{Endpoint}
+use Rattle.packet_function.specs.declared.flow.FiveTuple.{FiveTuple}
 use Rattle.flow_shards.specs.Flows.{address_number, is_wide, key_of}
 use Rattle.flow_shards.specs.Sharding.{shard_of}
 

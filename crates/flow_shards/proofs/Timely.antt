@@ -5,8 +5,8 @@ use Rattle.std.specs.Prelude.{All, fold, if◌then◌else◌, Some, unwrap_or}
 use Rattle.std.specs.Map.{keys_of}
 use Rattle.std.proofs.lemmas.List.Elements.{All-head, All-tail, All-map, All-push, All-nil, All-weaker}
 use Rattle.first_sight.specs.FirstSight.{belonging, is_seen, noted, with_value}
-use Rattle.nf_observe.specs.SameFlow.{is_same_flow}
-use Rattle.nf_observe.specs.declared.flow.FiveTuple.{FiveTuple}
+use Rattle.packet_function.specs.SameFlow.{is_same_flow}
+use Rattle.packet_function.specs.declared.flow.FiveTuple.{FiveTuple}
 use Rattle.flow_line.specs.declared.line.FlowLine.{FlowLine}
 use Rattle.flow_shards.specs.Flows.{Lines, counted, counted_all, first_line, with_sight}
 use Rattle.flow_shards.specs.InOrderOfTime.{AreInOrderOfTime, counted_to_last, ending_at}

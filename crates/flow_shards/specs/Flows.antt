@@ -14,8 +14,8 @@ use Rattle.classifier.specs.declared.burst.Item.{Item}
 use Rattle.first_sight.specs.FirstSight.{belonging, noted}
 use Rattle.nf_observe.specs.Flows.{with_packet}
 use Rattle.nf_observe.specs.Monitors.{flow_of}
-use Rattle.nf_observe.specs.SameFlow.{is_same_flow}
-use Rattle.nf_observe.specs.declared.flow.FiveTuple.{FiveTuple}
+use Rattle.packet_function.specs.SameFlow.{is_same_flow}
+use Rattle.packet_function.specs.declared.flow.FiveTuple.{FiveTuple}
 use Rattle.nf_observe.specs.declared.flow.FlowCounts.{FlowCounts}
 use Rattle.flow_line.specs.declared.key.FlowKey.{FlowKey}
 use Rattle.flow_line.specs.declared.line.FlowLine.{FlowLine}

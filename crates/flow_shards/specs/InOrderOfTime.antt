@@ -1,7 +1,7 @@
 -- For proofs: packets in order of time, and the counts of their flows if the last packet always ends its flow.
 use Rattle.std.specs.Prelude.{ℕ, ◌≤◌, ⊤, List, [], ◌∷◌, unwrap_or}
 use Rattle.first_sight.specs.FirstSight.{belonging, noted}
-use Rattle.nf_observe.specs.SameFlow.{is_same_flow}
+use Rattle.packet_function.specs.SameFlow.{is_same_flow}
 use Rattle.flow_line.specs.declared.line.FlowLine.{FlowLine}
 use Rattle.flow_shards.specs.Flows.{Lines, first_line, with_sight}
 use Rattle.flow_shards.specs.declared.sight.Sight.{Sight}

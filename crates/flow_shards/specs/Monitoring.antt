@@ -1,7 +1,7 @@
 -- For proofs: what a monitor has of lines and packets.
 use Rattle.std.specs.Prelude.{ℕ}
 use Rattle.flow_line.specs.declared.line.FlowLine.{FlowLine}
-use Rattle.nf_observe.specs.declared.flow.FiveTuple.{FiveTuple}
+use Rattle.packet_function.specs.declared.flow.FiveTuple.{FiveTuple}
 use Rattle.nf_observe.specs.declared.flow.FlowCounts.{FlowCounts}
 use Rattle.flow_shards.specs.declared.sight.Sight.{Sight}
 

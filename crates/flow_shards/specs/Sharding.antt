@@ -6,8 +6,8 @@ use Rattle.classifier.specs.declared.burst.Item.{Item}
 use Rattle.flow_line.specs.Versions.{FitsVersion}
 use Rattle.flow_line.specs.declared.key.FlowKey.{FlowKey}
 use Rattle.flow_line.specs.declared.line.FlowLine.{FlowLine}
-use Rattle.nf_observe.specs.SameFlow.{is_same_flow}
-use Rattle.nf_observe.specs.declared.flow.FiveTuple.{FiveTuple}
+use Rattle.packet_function.specs.SameFlow.{is_same_flow}
+use Rattle.packet_function.specs.declared.flow.FiveTuple.{FiveTuple}
 use Rattle.flow_shards.specs.declared.sight.Sight.{Sight}
 use Rattle.flow_shards.specs.Flows.{Lines, counted, key_of}
 

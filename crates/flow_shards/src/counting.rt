@@ -7,7 +7,8 @@ use crate::columns::ColumnTable;
 use crate::key::{key_of, shard_of};
 use crate::sight::Sight;
 use flow_line::FlowLine;
-use nf_observe::{FiveTuple, FlowCounts};
+use nf_observe::FlowCounts;
+use packet_function::FiveTuple;
 use std::alloc::AllocError;
 
 /// The lines of one shard, each with its flow, in the order of first sight.

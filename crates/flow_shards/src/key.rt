@@ -5,7 +5,7 @@ ghost use Rattle.flow_shards.specs.Flows.{is_wide, address_number, key_of};
 ghost use Rattle.flow_shards.specs.Sharding.{shard_of};
 
 use flow_line::FlowKey;
-use nf_observe::FiveTuple;
+use packet_function::FiveTuple;
 use std::net::IpAddr;
 
 /// The key of a flow. It is wide if one of its addresses is of IPv6.

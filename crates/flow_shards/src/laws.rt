@@ -3,8 +3,8 @@ ghost use Rattle.std.specs.Prelude.{◌≡◌, ◌≤◌, ◌<◌, ◌++◌, ℕ
 ghost use Rattle.capture_bytes.specs.declared.packet.Unit.{Unit as TimeUnit};
 ghost use Rattle.classifier.specs.declared.burst.Item.{Item};
 ghost use Rattle.flow_line.specs.declared.key.FlowKey.{FlowKey};
-ghost use Rattle.nf_observe.specs.declared.flow.FiveTuple.{FiveTuple};
-ghost use Rattle.nf_observe.specs.SameFlow.{is_same_flow};
+ghost use Rattle.packet_function.specs.declared.flow.FiveTuple.{FiveTuple};
+ghost use Rattle.packet_function.specs.SameFlow.{is_same_flow};
 ghost use Rattle.nf_observe.specs.Counting.{flows_with};
 ghost use Rattle.flow_shards.specs.Flows.{counted_all, flows_from, key_of, sight_of};
 ghost use Rattle.flow_shards.specs.InOrderOfTime.{AreInOrderOfTime, counted_to_last};

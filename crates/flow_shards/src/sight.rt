@@ -3,8 +3,8 @@ use crate::key::key_of;
 use capture_bytes::Unit;
 use classifier::Item;
 use frame_seen::{seen_ip_address, seen_port};
-use nf_observe::{Endpoint, FiveTuple};
 use packet_fields::{Field, Outline};
+use packet_function::{Endpoint, FiveTuple};
 
 /// A packet of a flow, and what it adds to the flow's line.
 #[derive(Clone, Copy, Debug)]

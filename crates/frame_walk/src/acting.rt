@@ -3,7 +3,7 @@ ghost use Rattle.std.specs.Prelude.{◌≡◌, true, IfOk, OnOk, OnErr, IsSome};
 ghost use Rattle.packet_fields.specs.declared.field.Field.{Field};
 ghost use Rattle.packet_version.specs.Views.{seen_parts, viewed, wrote_all, HasTagRoom};
 
-use net_functions::Function;
+use packet_function::Function;
 use packet_version::{Verdict, View, unwritten_stays};
 use std::alloc::AllocError;
 

@@ -16,8 +16,8 @@ use action_profile::{Mode, Profile, StageParts, Touch};
 use chain_walk::step_is_put_together;
 use item_list::Items;
 use merge_ops::{Arrival, Merged, last_writer_is_greatest, merge, merged_is_written_last};
-use net_functions::Function;
 use packet_fields::{Field, Frame};
+use packet_function::Function;
 use packet_version::{
     Base, Tally, Verdict, Version, deal, dealt_is_read, join, later_write_stands_over, split,
     view_is_formed,

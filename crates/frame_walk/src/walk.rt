@@ -5,8 +5,8 @@ ghost use Rattle.frame_walk.specs.Stopping.{StopsAt};
 
 use crate::step::step_frame;
 use chain_walk::Fate;
-use net_functions::Function;
 use packet_fields::Frame;
+use packet_function::Function;
 use std::alloc::{AllocError, Global};
 use std::sync::Wait;
 

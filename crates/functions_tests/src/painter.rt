@@ -3,8 +3,8 @@
 ghost use Rattle.std.specs.Prelude.{◌∷◌, []};
 
 use action_profile::{FieldSet, Profile};
-use net_functions::{FlowNote, Function};
 use packet_fields::Field;
+use packet_function::{FlowNote, Function};
 use packet_version::{Verdict, View, unwritten_stays, view_is_formed};
 use std::alloc::{AllocError, Global};
 

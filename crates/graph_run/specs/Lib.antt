@@ -7,4 +7,3 @@ pub mod Staging
 pub mod Stages
 pub mod Leading
 pub mod Settling
-pub mod NfObserve

@@ -16,8 +16,8 @@ ghost use Rattle.graph_run.specs.Staging.{Holds, IsReady, IsCarried, IsCarriedBy
 use crate::noted::{Noted, note_down};
 use chain_walk::{quiet_functions_keep_to_profiles, values_stay_well_formed};
 use merge_ops::Arrival;
-use net_functions::{FlowNote, Function};
 use nfp_outside::Gate;
+use packet_function::{FlowNote, Function};
 use packet_version::{Verdict, Version, unwritten_stays};
 use std::alloc::AllocError;
 use std::sync::Wait;

@@ -25,7 +25,7 @@ ghost use Rattle.graph_run.specs.Stages.{GoesFrom, AllCarried, LeavesStage, end_
 use chain_walk::values_stay_well_formed;
 use graph_compile::lawful_stage_has_owners;
 use merge_ops::{last_writer_is_greatest, merged_is_written_last, written_is_made};
-use net_functions::Function;
+use packet_function::Function;
 
 /// A function of any kind does what its profile says, and no more.
 pub fn functions_keep_to_profiles<F: Function>()

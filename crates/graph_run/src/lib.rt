@@ -49,6 +49,3 @@ pub use pieces::pieces_are_led_in_a_row;
 pub use plain::{count_adders, is_of, run_gated, run_items, run_plain};
 pub use row::run_in_a_row;
 pub use running::Running;
-
-// The trait of functions in a graph, for the crates above.
-pub use net_functions::{FlowNote, Function};

@@ -4,7 +4,7 @@ ghost use Rattle.burst_law.specs.Placed.{placed, settled_there, settled_where, s
 ghost use Rattle.graph_run.specs.Settling.{gone_at};
 
 use chain_walk::Fate;
-use net_functions::{FlowNote, Function};
+use packet_function::{FlowNote, Function};
 use std::alloc::AllocError;
 use std::marker::Model;
 
@@ -17,7 +17,7 @@ pub(crate) struct Noted {
 
 impl Model for Noted {
     ghost use Rattle.burst_law.specs.Placed.{PlacedNote};
-    ghost use Rattle.nf_observe.specs.declared.note.FlowNote.{FlowNote};
+    ghost use Rattle.packet_function.specs.declared.note.FlowNote.{FlowNote};
 
     ghost Value = { PlacedNote FlowNote };
 

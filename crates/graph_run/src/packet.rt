@@ -22,8 +22,8 @@ use graph_law::{
     fields_stay, graph_is_chain, notes_are_settled_behind, profiles_stay, stage_reached,
 };
 use merge_ops::Merged;
-use net_functions::{FlowNote, Function};
 use nfp_outside::Gate;
+use packet_function::{FlowNote, Function};
 use packet_version::{Tally, join, split};
 use std::alloc::{AllocError, Global};
 use std::sync::Wait;

@@ -1,8 +1,8 @@
 //! The functions of a chain, and the graph in which they run.
 
 use graph_compile::Graph;
-use net_functions::Function;
 use pace::Pace;
+use packet_function::Function;
 use std::marker::Model;
 
 /// Functions in chain order, in the states in which the last packet left them, and a graph that is lawful

@@ -17,8 +17,8 @@ use graph_law::profiles_stay;
 use merge_ops::{
     Merged, last_writer_is_greatest, merge, merge_only, merged_is_written_last, written_is_made,
 };
-use net_functions::Function;
 use nfp_outside::Gate;
+use packet_function::Function;
 use packet_version::{Apart, Tally, deal, deal_whole};
 use std::alloc::{AllocError, Global};
 use std::sync::Wait;

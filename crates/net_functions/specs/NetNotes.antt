@@ -9,7 +9,7 @@ use Rattle.chain_walk.specs.declared.verdict.Verdict.TheVariants as verdicts
 use Rattle.nf_observe.specs.Monitors.{monitor_behaviour}
 use Rattle.nf_observe.specs.MonitorNotes.{note_of, settled_note, monitor_notes, monitor_counts}
 use Rattle.nf_observe.specs.declared.monitor.Monitor as monitors
-use Rattle.nf_observe.specs.declared.note.FlowNote.{FlowNote}
+use Rattle.packet_function.specs.declared.note.FlowNote.{FlowNote}
 use Rattle.net_functions.specs.NetFunctions.{as_any, net_behaviour, profile_by, step_by}
 use Rattle.net_functions.specs.declared.net_function.NetFunction.{NetFunction}
 use Rattle.net_functions.specs.declared.net_function.NetFunction.TheVariants.{Firewall, Nat, Balancer, Monitor, Limiter, Marker, Hop, Tagger, Untagger, Signature, Nexthop, Redactor}

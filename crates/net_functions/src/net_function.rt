@@ -1,11 +1,11 @@
 //! A network function of any kind.
 
-use crate::function::Function;
 use action_profile::{Kind, Profile, profile};
 use nf_filter::{Firewall, Signature};
 use nf_mark::{Hop, Marker, Nexthop, Redactor, Tagger, Untagger};
-use nf_observe::{FlowNote, Limiter, Monitor, look};
+use nf_observe::{Limiter, Monitor, look};
 use nf_translate::{Balancer, Nat};
+use packet_function::{FlowNote, Function};
 use packet_version::{Verdict, View};
 use std::alloc::{AllocError, Global};
 

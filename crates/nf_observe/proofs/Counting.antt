@@ -6,10 +6,10 @@ use Rattle.std.specs.HashMap.Eq.{lookup_congr}
 use Rattle.std.specs.List.{sum_by}
 use Rattle.first_sight.specs.FirstSight.{belonging, noted}
 use Rattle.nf_observe.specs.Flows.{count_up_to, no_packets, with_packet, counted}
-use Rattle.nf_observe.specs.SameFlow.{is_same_flow}
-use Rattle.nf_observe.specs.SameFlowLaws.{same_flow}
+use Rattle.packet_function.specs.SameFlow.{is_same_flow}
+use Rattle.packet_function.specs.SameFlowLaws.{same_flow}
 use Rattle.nf_observe.specs.Counting.{Sight, flows_with, counts_of, of_flow, totals}
-use Rattle.nf_observe.specs.declared.flow.FiveTuple.{FiveTuple}
+use Rattle.packet_function.specs.declared.flow.FiveTuple.{FiveTuple}
 use Rattle.nf_observe.specs.declared.flow.FlowCounts.{FlowCounts}
 
 -- what is noted for a flow is found

@@ -7,11 +7,11 @@ use Rattle.first_sight.specs.SameAddress.{is_same_address}
 use Rattle.first_sight.proofs.Telling.{entries_counted, noted_counted}
 use Rattle.nf_observe.specs.Limiters.{limited}
 use Rattle.nf_observe.specs.MonitorNotes.{settled_note}
-use Rattle.nf_observe.specs.SameFlow.{is_same_flow}
+use Rattle.packet_function.specs.SameFlow.{is_same_flow}
 use Rattle.nf_observe.specs.StateRows.{limiter_rows, monitor_rows}
 use Rattle.nf_observe.specs.declared.limiter.Limiter.{Limiter}
 use Rattle.nf_observe.specs.declared.monitor.Monitor.{Monitor}
-use Rattle.nf_observe.specs.declared.note.FlowNote.{FlowNote}
+use Rattle.packet_function.specs.declared.note.FlowNote.{FlowNote}
 
 pub no_new_source : (l : Limiter) (source : IpAddr) (bytes time : ℕ) → length (limiter_rows (limited l source bytes time).after) ≡ length (limiter_rows l) →
     length (seen_with is_same_address (keys_of l.sources) source) ≡ length (keys_of l.sources)

@@ -19,7 +19,7 @@ use Rattle.nf_observe.specs.LimiterLines.{line_of}
 use Rattle.nf_observe.specs.Limiters.{limiter_by, limited, limited_by}
 use Rattle.nf_observe.specs.declared.limiter.Limiter.{Limiter}
 use Rattle.nf_observe.specs.declared.limiter.lines.LimiterLine.{LimiterLine}
-use Rattle.nf_observe.specs.declared.flow.FiveTuple.{FiveTuple}
+use Rattle.packet_function.specs.declared.flow.FiveTuple.{FiveTuple}
 use Rattle.nf_observe.specs.declared.flow.FlowCounts.{FlowCounts}
 
 -- 10.1.2.3 and 192.168.0.255

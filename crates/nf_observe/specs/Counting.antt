@@ -3,8 +3,8 @@ use Rattle.std.specs.Prelude.{ℕ, List, length, filter, fold, unwrap_or}
 use Rattle.std.specs.List.{sum_by}
 use Rattle.first_sight.specs.FirstSight.{belonging}
 use Rattle.nf_observe.specs.Flows.{count_up_to, no_packets, counted}
-use Rattle.nf_observe.specs.SameFlow.{is_same_flow}
-use Rattle.nf_observe.specs.declared.flow.FiveTuple.{FiveTuple}
+use Rattle.packet_function.specs.SameFlow.{is_same_flow}
+use Rattle.packet_function.specs.declared.flow.FiveTuple.{FiveTuple}
 use Rattle.nf_observe.specs.declared.flow.FlowCounts.{FlowCounts}
 
 -- a packet: its flow and its bytes

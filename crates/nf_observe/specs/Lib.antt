@@ -7,8 +7,6 @@ pub mod Limiters
 pub mod MonitorLaws
 pub mod MonitorNotes
 pub mod Monitors
-pub mod SameFlow
-pub mod SameFlowLaws
 pub mod Spending
 pub mod StateLines
 pub mod StateRows

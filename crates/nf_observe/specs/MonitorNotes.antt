@@ -9,9 +9,9 @@ use Rattle.chain_walk.specs.Step.{Step, nothing}
 use Rattle.chain_walk.specs.declared.verdict.Verdict.TheVariants.{Pass}
 use Rattle.nf_observe.specs.Flows.{counted}
 use Rattle.nf_observe.specs.Monitors.{flow_of, flows_after, monitor_behaviour}
-use Rattle.nf_observe.specs.declared.flow.FiveTuple.{FiveTuple}
+use Rattle.packet_function.specs.declared.flow.FiveTuple.{FiveTuple}
 use Rattle.nf_observe.specs.declared.monitor.Monitor.{Monitor}
-use Rattle.nf_observe.specs.declared.note.FlowNote.{FlowNote}
+use Rattle.packet_function.specs.declared.note.FlowNote.{FlowNote}
 
 -- a note, if flow and length are known
 abbrev pub note_by : Option FiveTuple → Option ℕ → Option FlowNote

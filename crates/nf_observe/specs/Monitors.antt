@@ -13,8 +13,8 @@ use Rattle.first_sight.specs.FirstSight.{lines_by}
 use Rattle.nf_observe.specs.Flows.{counted}
 use Rattle.nf_observe.specs.StateLines.{flow_line}
 use Rattle.nf_observe.specs.declared.monitor.build.MonitorLine.{MonitorLine}
-use Rattle.nf_observe.specs.declared.flow.Endpoint.{Endpoint}
-use Rattle.nf_observe.specs.declared.flow.FiveTuple.{FiveTuple}
+use Rattle.packet_function.specs.declared.flow.Endpoint.{Endpoint}
+use Rattle.packet_function.specs.declared.flow.FiveTuple.{FiveTuple}
 use Rattle.nf_observe.specs.declared.flow.FlowCounts.{FlowCounts}
 use Rattle.nf_observe.specs.declared.monitor.Monitor.{Monitor}
 

@@ -6,8 +6,8 @@ use Rattle.std.specs.declared.net.ip_addr.IpAddr.{IpAddr}
 use Rattle.text_lines.specs.Texts.{joined, line_of}
 use Rattle.first_sight.specs.Addresses.{address_text}
 use Rattle.nf_observe.specs.declared.bucket.TokenBucket.{TokenBucket}
-use Rattle.nf_observe.specs.declared.flow.Endpoint.{Endpoint}
-use Rattle.nf_observe.specs.declared.flow.FiveTuple.{FiveTuple}
+use Rattle.packet_function.specs.declared.flow.Endpoint.{Endpoint}
+use Rattle.packet_function.specs.declared.flow.FiveTuple.{FiveTuple}
 use Rattle.nf_observe.specs.declared.flow.FlowCounts.{FlowCounts}
 
 -- a port, and `-` if it is absent

@@ -7,17 +7,18 @@ ghost use Rattle.nf_observe.specs.Counting.{Sight, flows_with, counts_of, of_flo
 ghost use Rattle.first_sight.specs.FirstSight.{belonging};
 ghost use Rattle.first_sight.specs.SameAddress.{is_same_address};
 ghost use Rattle.nf_observe.specs.Flows.{counted};
-ghost use Rattle.nf_observe.specs.SameFlow.{is_same_flow};
+ghost use Rattle.packet_function.specs.SameFlow.{is_same_flow};
 ghost use Rattle.nf_observe.specs.Spending.{Arrival, left_by, bytes_paid, bytes_of, IsConforming, IsWithinRate};
 ghost use Rattle.nf_observe.specs.Limiters.{limited, bucket_of, verdict_by};
 ghost use Rattle.nf_observe.specs.declared.limiter.Limiter.{Limiter};
 ghost use Rattle.nf_observe.specs.declared.bucket.TokenBucket.{TokenBucket};
-ghost use Rattle.nf_observe.specs.declared.flow.FiveTuple.{FiveTuple};
+ghost use Rattle.packet_function.specs.declared.flow.FiveTuple.{FiveTuple};
 ghost use Rattle.nf_observe.specs.declared.flow.FlowCounts.{FlowCounts};
 
 use crate::bucket::TokenBucket;
-use crate::flow::{FiveTuple, FlowCounts};
+use crate::flow::FlowCounts;
 use first_sight::noted_is_found;
+use packet_function::FiveTuple;
 use std::net::IpAddr;
 
 /// The counts of each flow are those of its packets and their bytes, whatever comes in between. A known flow keeps its

@@ -1,7 +1,7 @@
 //! Network functions that watch packets, and change nothing of them.
 //!
 //! A [`Monitor`] counts the packets and bytes of each flow: packets of one protocol between the same addresses of IPv4
-//! or IPv6 and the same ports (RFC 791, RFC 8200, RFC 793, RFC 768). A packet's bytes are its IP length: IPv4's total
+//! or IPv6 and the same ports ([`packet_function::FiveTuple`]). A packet's bytes are its IP length: IPv4's total
 //! length, or IPv6's header of 40 bytes and its payload length. Both counts stay at the largest number of 64 bits once
 //! they reach it. [`flows_count_their_packets`] says that each flow has the counts of its own packets. No line sets a
 //! monitor up: [`Monitor::build`] refuses any.
@@ -37,15 +37,13 @@ mod flow;
 mod laws;
 mod limiter;
 mod monitor;
-mod note;
 mod state_lines;
 
 pub use bucket::TokenBucket;
-pub use flow::{Endpoint, FiveTuple, FlowCounts};
+pub use flow::FlowCounts;
 pub use laws::{
     buckets_keep_the_rate, conforming_sources_pass, flows_count_their_packets,
     sources_have_their_own_buckets,
 };
 pub use limiter::{Limiter, LimiterLine};
 pub use monitor::{Monitor, MonitorLine, look};
-pub use note::FlowNote;

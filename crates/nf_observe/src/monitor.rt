@@ -2,12 +2,12 @@
 
 mod build;
 
-use crate::flow::{Endpoint, FiveTuple, FlowCounts};
-use crate::note::FlowNote;
+use crate::flow::FlowCounts;
 pub use build::MonitorLine;
 use first_sight::FirstSeen;
 use frame_seen::{seen_ip_address, seen_port};
 use packet_fields::Field;
+use packet_function::{Endpoint, FiveTuple, FlowNote};
 use packet_version::View;
 use std::alloc::AllocError;
 
@@ -26,7 +26,7 @@ impl Monitor {
     ghost use Rattle.nf_observe.specs.Flows.{counted};
     ghost use Rattle.nf_observe.specs.Monitors.{monitor_text};
     ghost use Rattle.nf_observe.specs.MonitorNotes.{settled_note};
-    ghost use Rattle.nf_observe.specs.SameFlow.{is_same_flow};
+    ghost use Rattle.packet_function.specs.SameFlow.{is_same_flow};
     ghost use Rattle.nf_observe.specs.StateRows.{monitor_rows};
 
     /// Counts a packet with this note. If there is no memory for a new flow, nothing changes.

@@ -3,10 +3,11 @@ ghost use Rattle.std.specs.Prelude.{◌≡◌, ◌++◌, OnOk};
 ghost use Rattle.nf_observe.specs.StateLines.{port_text, endpoint_text};
 
 use crate::bucket::TokenBucket;
-use crate::flow::{Endpoint, FiveTuple, FlowCounts};
+use crate::flow::FlowCounts;
 use crate::limiter::Limiter;
 use crate::monitor::Monitor;
 use first_sight::{EntryLines, push_ip_address};
+use packet_function::{Endpoint, FiveTuple};
 use std::alloc::{AllocError, Global};
 use std::net::IpAddr;
 use text_lines::Piece::{Number, Text};

@@ -20,7 +20,7 @@ packets_sum some more = min (some + more) 4294967295
 abbrev pub nanos_sum : ℕ → ℕ → ℕ
 nanos_sum some more = min (some + more) 18446744073709551615
 
--- a sample of these packets, which took so long, is full with 1,024 packets, and is then judged
+-- a sample of this number of packets, which took this time, is full with 1,024 packets, and is then judged
 abbrev pub sampled : ℕ → ℕ → Option ℕ → Way
 sampled packets nanos each =
     if nat_le 1024 packets
@@ -107,7 +107,7 @@ abbrev pub left : ℕ → ℕ → Pace → Pace
 left packets nanos pace =
     record pace { threads = record { each = Some (nanos / packets); packets = 0; nanos = 0 }; part = Chosen; packets = 0; nanos = 0 }
 
--- the part has had these packets, which took so long
+-- the part has had this number of packets, which took this time
 abbrev pub after : ℕ → ℕ → Pace → Pace
 after packets nanos pace =
     if is_over pace.part packets

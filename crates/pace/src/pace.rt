@@ -188,7 +188,7 @@ impl Pace {
         }
     }
 
-    /// Are packets light, or did threads take so much longer, that threads need not be tried again?
+    /// Are packets light, or did threads take more than [`HOPELESS`] times as long, so that they need not be tried again?
     fn are_threads_hopeless(&self) -> bool
         ensures { result ≡ are_hopeless self.now.threads.each self.now.alone.each }
     {
@@ -220,7 +220,7 @@ fn size(part: Part) -> u32
     }
 }
 
-/// Is a part over after so many packets? The first has one burst.
+/// Is a part over after `packets` packets? The first has one burst.
 fn is_over(part: Part, packets: u32) -> bool
     ensures { result ≡ is_over part packets }
 {

@@ -1,7 +1,7 @@
 //! Returns the functions of nodes, by stage and branch.
 ghost use Rattle.std.specs.Prelude.{◌≡◌, List, length, map, take, drop, IfOk, OnOk};
 ghost use Rattle.burst_law.specs.Bursts.{Message};
-ghost use Rattle.graph_run.specs.NfObserve.{FlowNote};
+ghost use Rattle.packet_function.specs.declared.note.FlowNote.{FlowNote};
 ghost use Rattle.piped_run.specs.Settling.{settled_own};
 ghost use Rattle.settled_notes.specs.Settling.{TellDrops};
 ghost use Rattle.std.specs.Vec.Iter.{into_iter_items};
@@ -12,7 +12,7 @@ use crate::owned::OwnedFunctions;
 use crate::settling::settle_work;
 use chain_walk::Fate;
 use graph_compile::Stage;
-use graph_run::Function;
+use packet_function::Function;
 use std::alloc::{AllocError, Global};
 use std::vec::IntoIter;
 

@@ -3,8 +3,9 @@ ghost use Rattle.std.specs.Prelude.{◌≡◌, suc, [], false, All, IfOk, IfSome
 
 use crate::turn::branch_turn;
 use chain_walk::quiet_functions_keep_to_profiles;
-use graph_run::{Function, functions_keep_to_profiles};
+use graph_run::functions_keep_to_profiles;
 use nfp_outside::Gate;
+use packet_function::Function;
 use packet_messages::Message;
 use packet_version::Version;
 use settled_notes::ListedNote;
@@ -28,7 +29,7 @@ pub(crate) struct OwnedFunctions<F> {
 
 impl<F> Model for OwnedFunctions<F> {
     ghost use Rattle.std.specs.Prelude.{length};
-    ghost use Rattle.graph_run.specs.NfObserve.{FlowNote};
+    ghost use Rattle.packet_function.specs.declared.note.FlowNote.{FlowNote};
     ghost use Rattle.stream_law.specs.Owned.{PlainOwned};
 
     ghost Value = { PlainOwned F FlowNote };

@@ -20,9 +20,10 @@ use burst_law::{
 };
 use chain_walk::{Fate, quiet_functions_keep_to_profiles};
 use graph_compile::{Graph, Stage};
-use graph_run::{FlowNote, Function, functions_keep_to_profiles};
+use graph_run::functions_keep_to_profiles;
 use nfp_outside::Gate;
 use node_run::{MergeWay, Schedule, most_threads, run_nodes};
+use packet_function::{FlowNote, Function};
 use packet_version::Tally;
 use settled_notes::functions_count_by_notes;
 use std::alloc::{AllocError, Global};

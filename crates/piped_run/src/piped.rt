@@ -11,11 +11,12 @@ use chain_walk::Fate;
 use classifier::{Burst, Item};
 use graph_compile::Graph;
 use graph_run::{
-    Function, Running, functions_keep_to_profiles, pieces_are_led_in_a_row, run_gated, run_in_a_row,
+    Running, functions_keep_to_profiles, pieces_are_led_in_a_row, run_gated, run_in_a_row,
 };
 use nfp_outside::Gate;
 use node_run::{MergeWay, Schedule};
 use pace::{Lead, Pace};
+use packet_function::Function;
 use packet_version::Tally;
 use std::alloc::{AllocError, Global};
 use std::rt::Clock;

@@ -6,7 +6,7 @@ ghost use Rattle.settled_notes.specs.Settling.{TellDrops};
 
 use crate::owned::OwnedFunctions;
 use chain_walk::Fate;
-use graph_run::Function;
+use packet_function::Function;
 use settled_notes::settle_listed;
 use std::alloc::AllocError;
 

@@ -9,9 +9,10 @@ ghost use Rattle.burst_law.specs.Noting.{row_listed};
 ghost use Rattle.piped_run.specs.Turns.{AddsAll, AddsSome, EachStays, IsReadyMessage, as_sent, is_live};
 
 use chain_walk::quiet_functions_keep_to_profiles;
-use graph_run::{Acted, Function, step_on, versions_go_on};
+use graph_run::{Acted, step_on, versions_go_on};
 use merge_ops::Arrival;
 use nfp_outside::Gate;
+use packet_function::Function;
 use packet_messages::{Message, boxed};
 use packet_version::Version;
 use settled_notes::{ListedNote, list_note};

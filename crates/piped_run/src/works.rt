@@ -13,9 +13,9 @@ use crate::owned::OwnedFunctions;
 use crate::splitting::{places_of, split_branch};
 use action_profile::StageParts;
 use graph_compile::{Branch, Stage};
-use graph_run::Function;
 use item_list::Items;
 use node_run::StageWork;
+use packet_function::Function;
 use std::alloc::{AllocError, Global};
 
 /// The functions of a chain as works for the packets with these record numbers: each branch of these stages has those

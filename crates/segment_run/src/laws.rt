@@ -13,8 +13,8 @@ ghost use Rattle.nf_tunnel.specs.Tunnels.{decapsulated, encapsulated};
 ghost use Rattle.segment_run.specs.Segments.{piece_of};
 
 use crate::piece::Piece;
-use net_functions::Function;
 use nf_tunnel::{Decap, Encap, an_entry_adds_twenty_bytes};
+use packet_function::Function;
 
 /// The copies of two lots are those of the first, and those of the second as the first left the pieces. A chain that is
 /// one graph makes the copies of its graph.

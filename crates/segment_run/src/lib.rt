@@ -20,5 +20,4 @@ pub use run::run_pieces;
 
 // The parts of pieces and the ways to run them, for the crates above.
 pub use graph_run::Running;
-pub use net_functions::{FlowNote, Function, Made, NetFunction};
 pub use piped_run::MergeWay;

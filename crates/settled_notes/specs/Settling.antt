@@ -11,7 +11,7 @@ abbrev pub dropped_before : Fate → ℕ → Bool
 dropped_before (Out frame) q = false
 dropped_before (Gone p) q = nat_lt p q
 
--- these fates say before which positions each packet was dropped, as these ends do
+-- these fates and these ends show the same drops: before which positions each packet was dropped
 abbrev pub TellDrops : List Fate → List Message → Type 0
 TellDrops fates ends = (k q : ℕ) → dropped_before (slice_index_or fates k (Gone 0)) q ≡ lost_before (slice_index_or ends k (Lost 0)) q
 

@@ -1,7 +1,7 @@
 //! A property of functions that count.
 ghost use Rattle.chain_walk.specs.Notes.{CountsByNotes};
 
-use net_functions::Function;
+use packet_function::Function;
 
 /// A function that counts, of any kind, only notes a packet and settles the note, and no note depends on what was
 /// settled.

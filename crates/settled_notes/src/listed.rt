@@ -2,7 +2,7 @@
 ghost use Rattle.std.specs.Prelude.{◌≡◌, ◌++◌, ◌∷◌, [], OnOk, OnErr};
 ghost use Rattle.burst_law.specs.Noting.{row_listed};
 
-use net_functions::FlowNote;
+use packet_function::FlowNote;
 use std::alloc::AllocError;
 use std::marker::Model;
 
@@ -17,7 +17,7 @@ pub struct ListedNote {
 
 impl Model for ListedNote {
     ghost use Rattle.burst_law.specs.Noting.{OwnNote};
-    ghost use Rattle.nf_observe.specs.declared.note.FlowNote.{FlowNote as Note};
+    ghost use Rattle.packet_function.specs.declared.note.FlowNote.{FlowNote as Note};
 
     ghost Value = { OwnNote Note };
 

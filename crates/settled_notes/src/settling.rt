@@ -6,7 +6,7 @@ ghost use Rattle.settled_notes.specs.Settling.{line_counts, AddsNoLine, TellDrop
 
 use crate::listed::ListedNote;
 use chain_walk::Fate;
-use net_functions::Function;
+use packet_function::Function;
 use std::alloc::AllocError;
 
 /// Settles the notes of the functions of a branch, which have these positions, on a burst whose packets have these

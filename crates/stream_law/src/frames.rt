@@ -16,7 +16,8 @@ ghost use Rattle.stream_law.specs.Ready.{AllEnter, Fits};
 
 use burst_law::frames_walk_in_bursts;
 use chain_walk::{frames_are_built_again, packets_walk_in_a_row, values_stay_well_formed};
-use graph_run::{Function, functions_keep_to_profiles};
+use graph_run::functions_keep_to_profiles;
+use packet_function::Function;
 use packet_version::frames_come_apart;
 
 /// Packets of a burst that were taken apart, with room for a tag of each function that adds one, may enter the first

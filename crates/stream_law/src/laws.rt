@@ -20,10 +20,11 @@ use burst_law::{burst_is_chain, copies_are_same, owned_is_whole};
 use chain_walk::quiet_functions_keep_to_profiles;
 use graph_compile::{lawful_graph_is_staged, lawful_stage_has_owners, stages_rise};
 use graph_run::{
-    Function, branches_hold_what_is_named, dealt_versions_go_on, due_copies_are_counted,
+    branches_hold_what_is_named, dealt_versions_go_on, due_copies_are_counted,
     functions_keep_to_profiles, merged_packets_go_on, versions_go_on,
 };
 use merge_ops::{last_writer_is_greatest, merged_is_written_last};
+use packet_function::Function;
 use packet_version::shape_fits;
 
 /// A burst of packets that is ready for a graph may go through the nodes of its stages, each branch with the functions

@@ -2,7 +2,7 @@ use Rattle.std.proofs.Common.{◌∙◌, List, length, map, sym, ap, refl, subst
 use Rattle.chain_walk.specs.Counting.{quiet}
 use Rattle.burst_law.specs.Copies.{chain_copies}
 use Rattle.graph_run.specs.Running.{IsRunning}
-use Rattle.graph_run.specs.NfObserve.{FlowNote}
+use Rattle.packet_function.specs.declared.note.FlowNote.{FlowNote}
 use Rattle.stream_law.specs.Messages.{as_message}
 use Rattle.stage_nodes.specs.Flows.{MayPassAll}
 use Rattle.stage_nodes.specs.Streams.{PlainStage, of_merged, copies_along}

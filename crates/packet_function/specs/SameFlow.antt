@@ -2,8 +2,8 @@
 use Rattle.std.specs.Prelude.{Bool, ◌==◌, ◌&&◌}
 use Rattle.std.specs.Option.{option_eq}
 use Rattle.first_sight.specs.SameAddress.{is_same_address}
-use Rattle.nf_observe.specs.declared.flow.Endpoint.{Endpoint}
-use Rattle.nf_observe.specs.declared.flow.FiveTuple.{FiveTuple}
+use Rattle.packet_function.specs.declared.flow.Endpoint.{Endpoint}
+use Rattle.packet_function.specs.declared.flow.FiveTuple.{FiveTuple}
 
 -- Addresses and ports are the same. An address of one version of IP never equals one of the other, and an absent port
 -- never equals a number.

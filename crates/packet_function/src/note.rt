@@ -1,8 +1,8 @@
-//! What a monitor notes of a packet.
+//! What a function that counts notes of a packet.
 
 use crate::flow::FiveTuple;
 
-/// A packet as a monitor notes it, before it is known whether the packet counts.
+/// A packet as a function that counts notes it, before it is known whether the packet counts.
 #[derive(Clone, Copy, Debug)]
 pub struct FlowNote {
     pub flow: FiveTuple,

@@ -5,12 +5,12 @@ ghost use Rattle.packet_fields.specs.declared.field.Field.{Field};
 ghost use Rattle.chain_walk.specs.Step.{Behaviour};
 ghost use Rattle.chain_walk.specs.Laws.{KeepsProfile};
 ghost use Rattle.chain_walk.specs.Notes.{Notes, noted, CountsByNotes};
-ghost use Rattle.nf_observe.specs.declared.note.FlowNote.{FlowNote};
+ghost use Rattle.packet_function.specs.declared.note.FlowNote.{FlowNote};
 ghost use Rattle.packet_version.specs.Views.{seen_parts, seen_values, viewed, wrote_all, HasTagRoom};
-ghost use Rattle.net_functions.specs.Replicas.{may_be_several};
+ghost use Rattle.packet_function.specs.Replicas.{may_be_several};
 
+use crate::note::FlowNote;
 use action_profile::Profile;
-use nf_observe::FlowNote;
 use packet_version::{Verdict, View};
 use std::alloc::{AllocError, Global};
 

@@ -10,9 +10,9 @@ use Rattle.first_sight.specs.HashedAddress.{endpoint_writes, same_endpoint_fed}
 use Rattle.std.specs.Cmp.Lexicographic.{options_equiv}
 use Rattle.std.proofs.lemmas.Cmp.{and_equiv, on_equiv, nat_eq_equiv}
 use Rattle.first_sight.specs.SameAddressLaws.{same_address}
-use Rattle.nf_observe.specs.SameFlow.{is_same_endpoint, is_same_flow}
-use Rattle.nf_observe.specs.declared.flow.Endpoint.{Endpoint}
-use Rattle.nf_observe.specs.declared.flow.FiveTuple.{FiveTuple}
+use Rattle.packet_function.specs.SameFlow.{is_same_endpoint, is_same_flow}
+use Rattle.packet_function.specs.declared.flow.Endpoint.{Endpoint}
+use Rattle.packet_function.specs.declared.flow.FiveTuple.{FiveTuple}
 
 pub same_endpoint : IsEquivalence is_same_endpoint
 same_endpoint = and_equiv (on_equiv (λ (e : Endpoint). e.address) same_address) (on_equiv (λ (e : Endpoint). e.port) (options_equiv nat_eq_equiv))

@@ -1,0 +1,3 @@
+pub mod Replicas
+pub mod SameFlow
+pub mod SameFlowLaws
