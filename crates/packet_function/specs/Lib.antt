@@ -1,3 +1,4 @@
+pub mod Deciding
 pub mod Replicas
 pub mod SameFlow
 pub mod SameFlowLaws

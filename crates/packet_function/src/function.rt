@@ -7,8 +7,10 @@ ghost use Rattle.chain_walk.specs.Laws.{KeepsProfile};
 ghost use Rattle.chain_walk.specs.Notes.{Notes, noted, CountsByNotes};
 ghost use Rattle.packet_function.specs.declared.note.FlowNote.{FlowNote};
 ghost use Rattle.packet_version.specs.Views.{seen_parts, seen_values, viewed, wrote_all, HasTagRoom};
+ghost use Rattle.packet_function.specs.Deciding.{Deciding, decided, DecidesDrops};
 ghost use Rattle.packet_function.specs.Replicas.{may_be_several};
 
+use crate::deciding::DecidingLine;
 use crate::note::FlowNote;
 use action_profile::Profile;
 use packet_version::{Verdict, View};
@@ -27,6 +29,9 @@ pub trait Function: Sized {
 
     /// The same lines, each by itself.
     ghost rows: { Self → List (List ℕ) };
+
+    /// The lines of its declaration that decide what it does to a packet.
+    ghost decides: { Deciding Self };
 
     /// What it may do.
     fn profile(&self) -> Profile
@@ -48,6 +53,13 @@ pub trait Function: Sized {
         // Only a state needs memory, and only for one line more.
         ensures stateless { (behaviour.profile self.old).state ≡ false → IsOk result }
         ensures known { length (rows (viewed behaviour self.old view.old).after) ≡ length (rows self.old) → IsOk result };
+
+    /// Appends the lines of its declaration that decide what it does to one packet in its present state. It sees the
+    /// packet through a view of its own profile, before its step. If memory runs out, it appends nothing.
+    fn decide(&self, view: &View, deciding: &mut Vec<DecidingLine>) -> Result<(), AllocError>
+        requires profile { view.now.profile ≡ behaviour.profile self.now }
+        ensures decided { OnOk result (deciding.new.items ≡ deciding.old.items ++ decided behaviour decides view.now.version.fixed self.now (seen_values view.now)) }
+        ensures stays { OnErr result (deciding.new.items ≡ deciding.old.items) };
 
     /// What a function that counts notes of one packet, which it sees through a view of its own profile. A function
     /// that doesn't count notes nothing. Allocates nothing.
@@ -92,6 +104,9 @@ pub trait Function: Sized {
 
     /// It does what its profile says, and no more.
     ghost keeps: { KeepsProfile behaviour };
+
+    /// Each drop has exactly one deciding line.
+    ghost decides_drops: { DecidesDrops behaviour decides };
 
     /// If it counts, its step is to note a packet and to settle the note.
     ghost counts: { CountsByNotes behaviour notes };

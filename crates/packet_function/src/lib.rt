@@ -12,14 +12,19 @@
 //! RFC 8200, RFC 793, RFC 768). `specs/SameFlow.antt` says when two packets are of one flow. An address of IPv4 is never
 //! one of IPv6, so flows of the two versions are never confused.
 //!
+//! [`Function::decide`] names the lines of a function's declaration that decide what it does to a packet, by their roles
+//! there ([`DecidingLine`]); each drop has exactly one.
+//!
 //! What runs functions rests on these promises alone and knows no kind. Left out: the kinds, how they are made of the
 //! lines of a policy, what is counted of a flow, and the order in which functions see packets.
 #![tactic(auto)]
 
+mod deciding;
 mod flow;
 mod function;
 mod note;
 
+pub use deciding::{DecidingLine, SettingKey};
 pub use flow::{Endpoint, FiveTuple};
 pub use function::Function;
 pub use note::FlowNote;
