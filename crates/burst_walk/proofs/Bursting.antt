@@ -14,9 +14,9 @@ use Rattle.service_walk.specs.Service.{Classed, chains_after, fates_among}
 use Rattle.service_walk.specs.Weaving.{each_after, each_fates, fates_left, fates_seen, woven}
 use Rattle.classifier.specs.Classes.{class_of}
 use Rattle.classifier.specs.declared.burst.Item.{Item}
-use Rattle.chain_service.specs.NamedFunctions.{named_behaviour}
+use Rattle.policy_chains.specs.NamedFunctions.{named_behaviour}
 use Rattle.chain_service.specs.Opening.{chains_of, fits_of, pieces_in}
-use Rattle.chain_service.specs.declared.named.NamedFunction.{NamedFunction}
+use Rattle.policy_chains.specs.declared.named.NamedFunction.{NamedFunction}
 use Rattle.chain_service.specs.declared.service.ServiceChain.{ServiceChain}
 use Rattle.burst_walk.specs.Fates.{all_classed, chains_behind, fates_of}
 use Rattle.burst_walk.specs.Leading.{IsClassed, LeadsEach, all_ended, classed_item, classed_items, records_of}

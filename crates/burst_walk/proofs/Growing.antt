@@ -11,9 +11,9 @@ use Rattle.piece_walk.specs.Kinds.{GrowsLittle, IsNoLonger}
 use Rattle.piece_walk.specs.PiecePackets.{long_fates}
 use Rattle.piece_walk.specs.Pieces.{Piece}
 use Rattle.chain_service.specs.SegmentRunProofs.{functions_count}
-use Rattle.chain_service.specs.NamedFunctions.{named_behaviour}
-use Rattle.chain_service.specs.NamedFunctionLaws.{named_keeps}
-use Rattle.chain_service.specs.declared.named.NamedFunction.{NamedFunction}
+use Rattle.policy_chains.specs.NamedFunctions.{named_behaviour}
+use Rattle.policy_chains.specs.NamedFunctionLaws.{named_keeps}
+use Rattle.policy_chains.specs.declared.named.NamedFunction.{NamedFunction}
 use Rattle.burst_walk.specs.Leading.{IsWritable}
 use Rattle.burst_walk.proofs.Leading.{IsShortPacket}
 

@@ -13,9 +13,9 @@ use Rattle.service_walk.specs.Service.{Classed, is_of as takes, packets_in}
 use Rattle.service_walk.specs.Weaving.{each_fates}
 use Rattle.classifier.specs.declared.burst.Item.{Item}
 use Rattle.chain_service.specs.GraphRun.{is_of, packet_of, packets_taken}
-use Rattle.chain_service.specs.NamedFunctions.{named_behaviour}
+use Rattle.policy_chains.specs.NamedFunctions.{named_behaviour}
 use Rattle.chain_service.specs.Opening.{pieces_in}
-use Rattle.chain_service.specs.declared.named.NamedFunction.{NamedFunction}
+use Rattle.policy_chains.specs.declared.named.NamedFunction.{NamedFunction}
 use Rattle.chain_service.specs.declared.service.ServiceChain.{ServiceChain}
 use Rattle.burst_walk.specs.Leading.{IsWritable, LeadsChain, LeadsEach, classed_item, classed_items}
 

@@ -1,5 +1,5 @@
 -- Believed: names of chain_service, for the higher crates.
-pub use Rattle.chain_service.specs.NamedFunctions.{named_behaviour, named_lines}
-unfoldable pub use Rattle.chain_service.specs.Services.{cut}
-pub use Rattle.chain_service.specs.Services.{Chains, service_among, service_of}
-pub use Rattle.chain_service.specs.declared.named.NamedFunction.{NamedFunction}
+pub use Rattle.policy_chains.specs.NamedFunctions.{named_behaviour, named_lines}
+unfoldable pub use Rattle.policy_chains.specs.Services.{cut}
+pub use Rattle.policy_chains.specs.Services.{Chains, service_among, service_of}
+pub use Rattle.policy_chains.specs.declared.named.NamedFunction.{NamedFunction}

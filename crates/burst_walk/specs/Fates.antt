@@ -7,8 +7,8 @@ use Rattle.chain_walk.specs.declared.walk.Fate.{Fate}
 use Rattle.service_walk.specs.Service.{Classed, fates_among, chains_after}
 use Rattle.policy_text.specs.declared.policy.ChainPolicy.{ChainPolicy}
 use Rattle.classifier.specs.Classes.{class_of}
-use Rattle.chain_service.specs.NamedFunctions.{named_behaviour}
-use Rattle.chain_service.specs.Services.{Chains}
+use Rattle.policy_chains.specs.NamedFunctions.{named_behaviour}
+use Rattle.policy_chains.specs.Services.{Chains}
 
 -- the packet of a record, and the chain that takes it, by the frame as it was read
 abbrev pub classed : List ChainPolicy → TimeUnit → PcapRecord → Classed

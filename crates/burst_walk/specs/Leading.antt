@@ -14,7 +14,7 @@ use Rattle.classifier.specs.declared.burst.Item.{Item}
 use Rattle.chain_service.specs.GraphRun.{packet_of}
 use Rattle.piece_walk.specs.PiecePackets.{pieces_after}
 use Rattle.chain_service.specs.SegmentRun.{copies_through}
-use Rattle.chain_service.specs.NamedFunctions.{named_behaviour}
+use Rattle.policy_chains.specs.NamedFunctions.{named_behaviour}
 use Rattle.chain_service.specs.Opening.{pieces_in}
 use Rattle.chain_service.specs.declared.service.ServiceChain.{ServiceChain}
 

@@ -18,6 +18,6 @@ pub use walk::walk_burst;
 
 // The service, for the crates above.
 pub use chain_service::{
-    MergeWay, NamedFunction, Piece, Service, ServiceChain, bursts_are_counted_in_a_row,
-    make_service,
+    MergeWay, Piece, Service, ServiceChain, bursts_are_counted_in_a_row, make_service,
 };
+pub use policy_chains::NamedFunction;

@@ -3,7 +3,8 @@ ghost use Rattle.std.specs.Prelude.{All};
 ghost use Rattle.piece_walk.specs.Kinds.{GrowsLittle};
 ghost use Rattle.chain_service.specs.SegmentRunProofs.{pieces_of};
 
-use chain_service::{NamedFunction, Piece, piece_grows_little};
+use chain_service::{Piece, piece_grows_little};
+use policy_chains::NamedFunction;
 
 /// No piece of a chain makes a frame much longer by itself: the entry of a tunnel adds twenty bytes, and an exit none.
 pub fn pieces_grow_little(pieces: &[Piece<NamedFunction>])

@@ -15,7 +15,7 @@ use Rattle.net_functions.specs.declared.making.Made.{Made}
 use Rattle.chain_service.specs.Opening.{IsOpeningChain, pieces_in}
 use Rattle.graph_compile.specs.declared.graph.Graph.{Graph as StagedGraph}
 use Rattle.chain_service.specs.Fitting.{FitAll}
-use Rattle.chain_service.specs.Services.{in_graph, names_by, pieces_at, pieces_by}
+use Rattle.policy_chains.specs.Services.{in_graph, names_by, pieces_at, pieces_by}
 use Rattle.chain_service.specs.declared.service.ServiceChain.{ServiceChain}
 
 abbrev pub Graphs : Type 0

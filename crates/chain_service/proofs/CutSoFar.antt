@@ -9,9 +9,9 @@ use Rattle.piece_walk.specs.Pieces.{Piece}
 use Rattle.net_functions.specs.Builds.{function_of}
 use Rattle.segment_run.specs.Segments.{pieces_of}
 use Rattle.chain_service.specs.Cutting.{GoesOn, closed, cut_with, joined, with_all, with_declared, with_made}
-use Rattle.chain_service.specs.Services.{declared_at, pieces_at}
+use Rattle.policy_chains.specs.Services.{declared_at, pieces_at}
 use Rattle.chain_service.specs.declared.cutting.Cutting.{Cutting}
-use Rattle.chain_service.specs.declared.named.NamedFunction.{NamedFunction}
+use Rattle.policy_chains.specs.declared.named.NamedFunction.{NamedFunction}
 use Rattle.chain_service.proofs.Joined.{cut_joined}
 use Rattle.chain_service.proofs.Joining.{all_last}
 

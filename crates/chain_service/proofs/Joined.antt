@@ -13,8 +13,8 @@ use Rattle.net_functions.specs.declared.making.Made.{Made}
 use Rattle.net_functions.specs.declared.net_function.NetFunction.{NetFunction}
 use Rattle.net_functions.specs.declared.making.Made.TheVariants as made
 use Rattle.chain_service.specs.Cutting.{joined, with_first, with_made}
-use Rattle.chain_service.specs.Services.{compiled, is_whole, named, named_of, piece_among, piece_by, pieces_among}
-use Rattle.chain_service.specs.declared.named.NamedFunction.{NamedFunction}
+use Rattle.policy_chains.specs.Services.{compiled, is_whole, named, named_of, piece_among, piece_by, pieces_among}
+use Rattle.policy_chains.specs.declared.named.NamedFunction.{NamedFunction}
 
 -- what is made of a kind that rewrites packets whole, and of one that doesn't
 abbrev pub IsMade : Bool → Made → Type 0

@@ -13,7 +13,7 @@ use Rattle.segment_run.specs.Segments.{piece_of, pieces_of}
 use Rattle.segment_run.specs.declared.piece.Piece.TheVariants as running
 use Rattle.chain_service.specs.Cutting.{GoesOn, closed, with_all, with_first, with_made}
 use Rattle.chain_service.specs.declared.cutting.Cutting.{Cutting}
-use Rattle.chain_service.specs.declared.named.NamedFunction.{NamedFunction}
+use Rattle.policy_chains.specs.declared.named.NamedFunction.{NamedFunction}
 
 all_push : (functions : List NamedFunction) (f : NamedFunction) (later : List (Piece NamedFunction)) → with_all (functions ++ f ∷ []) later ≡ with_all functions (with_first f later)
 unfolding with_all

@@ -19,8 +19,8 @@ use Rattle.piece_walk.specs.Pieces.{Piece, Graph, Whole, count_of}
 use Rattle.segment_run.specs.Segments.{functions_count}
 use Rattle.graph_compile.specs.declared.graph.Graph.{Graph as StagedGraph}
 use Rattle.chain_service.specs.Cutting.{joined, with_first, with_made}
-use Rattle.chain_service.specs.Services.{compiled, declared_at, in_graph, pieces_among, pieces_at}
-use Rattle.chain_service.specs.declared.named.NamedFunction.{NamedFunction}
+use Rattle.policy_chains.specs.Services.{compiled, declared_at, in_graph, pieces_among, pieces_at}
+use Rattle.policy_chains.specs.declared.named.NamedFunction.{NamedFunction}
 use Rattle.chain_service.proofs.Joined.{cut_joined}
 
 first_counts : (f : NamedFunction) (later : List (Piece NamedFunction)) → functions_count (with_first f later) ≡ suc (functions_count later)

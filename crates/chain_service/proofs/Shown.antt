@@ -13,8 +13,8 @@ use Rattle.plan_text.specs.Plan.{is_whole_at}
 use Rattle.net_functions.specs.Builds.{function_of}
 use Rattle.net_functions.specs.declared.making.Made.{Made}
 use Rattle.net_functions.specs.declared.making.Made.TheVariants as made
-use Rattle.chain_service.specs.NamedFunctions.{named_behaviour}
-use Rattle.chain_service.specs.Services.{declared_at, is_whole, named_of, piece_among, piece_by, pieces_at}
+use Rattle.policy_chains.specs.NamedFunctions.{named_behaviour}
+use Rattle.policy_chains.specs.Services.{declared_at, is_whole, named_of, piece_among, piece_by, pieces_at}
 use Rattle.chain_service.specs.Shown.{stages_run, stages_shown}
 use Rattle.chain_service.proofs.Joined.{IsMade, front_by, is_entry, is_made, is_plain, named_first, or_false, first_false}
 use Rattle.chain_service.proofs.Written.{HasProfile, none_past, profile_declared, profile_made, profiles_at}

@@ -23,10 +23,10 @@ use Rattle.policy_judge.specs.Orders.{IsOrdered}
 use Rattle.policy_text.specs.declared.policy.ChainPolicy.{ChainPolicy}
 use Rattle.policy_text.specs.declared.policy.FunctionDecl.{FunctionDecl}
 use Rattle.chain_service.specs.Fitting.{CanRunIn, Fits}
-use Rattle.chain_service.specs.NamedFunctions.{named_behaviour}
+use Rattle.policy_chains.specs.NamedFunctions.{named_behaviour}
 use Rattle.chain_service.specs.Cutting.{joined, with_first, with_made}
-use Rattle.chain_service.specs.Services.{declared_at, pieces_among, pieces_at}
-use Rattle.chain_service.specs.declared.named.NamedFunction.{NamedFunction}
+use Rattle.policy_chains.specs.Services.{declared_at, pieces_among, pieces_at}
+use Rattle.policy_chains.specs.declared.named.NamedFunction.{NamedFunction}
 use Rattle.chain_service.proofs.Joined.{cut_joined}
 
 abbrev pub profile_declared : FunctionDecl → Profile

@@ -8,9 +8,9 @@ use Rattle.net_functions.specs.declared.making.Made.TheVariants as made
 use Rattle.nf_tunnel.specs.Tunnels.{encapsulated, decapsulated}
 use Rattle.piece_walk.specs.Pieces.{Piece, Graph, Whole}
 use Rattle.segment_run.specs.Segments.{pieces_of}
-use Rattle.chain_service.specs.Services.{compiled}
+use Rattle.policy_chains.specs.Services.{compiled}
 use Rattle.chain_service.specs.declared.cutting.Cutting.{Cutting}
-use Rattle.chain_service.specs.declared.named.NamedFunction.{NamedFunction}
+use Rattle.policy_chains.specs.declared.named.NamedFunction.{NamedFunction}
 
 -- the piece of functions in a row, if there is one
 abbrev pub closed : List NamedFunction → List (Piece NamedFunction)

@@ -8,8 +8,8 @@ use Rattle.graph_text.specs.Chains.{profiles_in}
 use Rattle.piece_walk.specs.Pieces.{Piece, Graph, Whole}
 use Rattle.policy_check.specs.declared.fault.Order.{Order}
 use Rattle.policy_text.specs.declared.policy.ChainPolicy.{ChainPolicy}
-use Rattle.chain_service.specs.NamedFunctions.{named_behaviour}
-use Rattle.chain_service.specs.declared.named.NamedFunction.{NamedFunction}
+use Rattle.policy_chains.specs.NamedFunctions.{named_behaviour}
+use Rattle.policy_chains.specs.declared.named.NamedFunction.{NamedFunction}
 
 -- a graph that is written for a chain is lawful for its functions, and no stage and no branch of it is empty
 abbrev pub Fits : ChainPolicy × Order → Option StagedGraph → Type 0

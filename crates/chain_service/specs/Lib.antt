@@ -1,12 +1,7 @@
 pub mod Cutting
 pub mod Fitting
-pub mod NamedFunctionLaws
-pub mod NamedNotes
-pub mod NamedFunctions
 pub mod Opening
-pub mod Services
 pub mod Shown
-pub mod StateRows
 pub mod Taking
 pub mod GraphRun
 pub mod NetFunctions

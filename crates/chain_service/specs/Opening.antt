@@ -5,8 +5,8 @@ use Rattle.policy_text.specs.declared.clause.Match.{Match}
 use Rattle.packet_version.specs.Tallies.{count_of}
 use Rattle.piece_walk.specs.Pieces.{Piece}
 use Rattle.segment_run.specs.Segments.{pieces_of}
-use Rattle.chain_service.specs.Services.{Chains}
-use Rattle.chain_service.specs.declared.named.NamedFunction.{NamedFunction}
+use Rattle.policy_chains.specs.Services.{Chains}
+use Rattle.policy_chains.specs.declared.named.NamedFunction.{NamedFunction}
 use Rattle.chain_service.specs.declared.service.Service.{Service}
 use Rattle.chain_service.specs.declared.service.ServiceChain.{ServiceChain}
 

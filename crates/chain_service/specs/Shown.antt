@@ -5,7 +5,7 @@ use Rattle.graph_compile.specs.declared.graph.Stage.{Stage}
 use Rattle.policy_text.specs.declared.policy.FunctionDecl.{FunctionDecl}
 use Rattle.plan_text.specs.Plan.{is_whole_at, stages_of}
 use Rattle.piece_walk.specs.Pieces.{Piece, Graph, Whole}
-use Rattle.chain_service.specs.declared.named.NamedFunction.{NamedFunction}
+use Rattle.policy_chains.specs.declared.named.NamedFunction.{NamedFunction}
 
 -- the stages in which a piece runs; none for one that rewrites packets whole
 abbrev pub stages_run : Piece NamedFunction → Option (List Stage)

@@ -1,13 +1,13 @@
 //! Cuts a chain into pieces, from its first function on.
 ghost use Rattle.std.specs.Prelude.{◌≡◌, ◌≤◌, length, IfOk};
 ghost use Rattle.segment_run.specs.GraphRun.{profiles_of};
-ghost use Rattle.chain_service.specs.Services.{stages_of};
+ghost use Rattle.policy_chains.specs.Services.{stages_of};
 
-use crate::named::NamedFunction;
 use action_profile::Profile;
 use graph_compile::compile;
 use net_functions::Made;
 use packet_function::Function;
+use policy_chains::NamedFunction;
 use policy_text::Name;
 use segment_run::{Piece, Running};
 use std::alloc::{AllocError, Global};

@@ -2,10 +2,10 @@
 ghost use Rattle.std.specs.Prelude.{◌≡◌, IfOk, Some, length};
 ghost use Rattle.segment_run.specs.Segments.{piece_of, pieces_of};
 ghost use Rattle.chain_service.specs.Fitting.{CanRun, CanRunIn};
-ghost use Rattle.chain_service.specs.Services.{by_graph, in_graph};
+ghost use Rattle.policy_chains.specs.Services.{by_graph, in_graph};
 
-use crate::named::NamedFunction;
 use graph_compile::Graph;
+use policy_chains::NamedFunction;
 use segment_run::{Piece, Running};
 use std::alloc::AllocError;
 

@@ -4,7 +4,7 @@ ghost use Rattle.std.specs.Prelude.{◌≡◌, ◌<◌, ℕ, List, length, map, 
 ghost use Rattle.graph_compile.specs.Cutting.{cut};
 ghost use Rattle.policy_text.specs.declared.policy.FunctionDecl.{FunctionDecl};
 ghost use Rattle.plan_text.specs.Plan.{is_whole_at};
-ghost use Rattle.chain_service.specs.Services.{pieces_at};
+ghost use Rattle.policy_chains.specs.Services.{pieces_at};
 ghost use Rattle.chain_service.specs.Shown.{stages_run, stages_shown};
 
 /// A law: piece by piece, the stages that the plan of a chain shows are those in which it runs, unless an operator wrote

@@ -3,9 +3,8 @@
 //! [`make_service`] takes a policy without fault, with the functions that were made when it was judged, and returns the
 //! [`Service`]: each chain as it is declared, the names of its functions in the order in which a packet goes through
 //! them, the pieces into which functions that rewrite packets whole cut it, each with the graph that is compiled for
-//! its functions, and the count of copies; and the table that decides which chain takes a packet. A [`NamedFunction`]
-//! that neither keeps a state nor counts can be cloned, with its name. `specs/Services.antt` defines the service of a
-//! policy.
+//! its functions, and the count of copies; and the table that decides which chain takes a packet. A `NamedFunction`
+//! that neither keeps a state nor counts can be cloned, with its name. `policy_chains` defines the chains of a policy.
 //!
 //! Left out: how packets are run through the chains.
 #![tactic(auto)]
@@ -13,12 +12,10 @@
 mod cutting;
 mod in_graph;
 mod laws;
-mod named;
 mod pieces;
 mod service;
 
 pub use laws::the_plan_is_what_runs;
-pub use named::NamedFunction;
 pub use pieces::ChainPieces;
 pub use service::{Service, ServiceChain, make_service};
 

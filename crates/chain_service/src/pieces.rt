@@ -1,6 +1,6 @@
 //! The pieces of a chain, of no more functions than a chain may have.
 
-use crate::named::NamedFunction;
+use policy_chains::NamedFunction;
 use segment_run::Piece;
 use std::marker::Model;
 
@@ -14,7 +14,7 @@ impl Model for ChainPieces {
     ghost use Rattle.std.specs.Prelude.{List, ◌≤◌};
     ghost use Rattle.segment_run.specs.Segments.{functions_count, pieces_of};
     ghost use Rattle.segment_run.specs.declared.piece.Piece.{Piece};
-    ghost use Rattle.chain_service.specs.declared.named.NamedFunction.{NamedFunction};
+    ghost use Rattle.policy_chains.specs.declared.named.NamedFunction.{NamedFunction};
 
     ghost Value = { List (Piece NamedFunction) };
 

@@ -6,7 +6,7 @@ use Rattle.chain_service.specs.SegmentRun.{copies_through}
 use Rattle.chain_service.specs.SegmentRunProofs.{functions_count, pieces_of}
 use Rattle.chain_service.specs.GraphRun.{packets_taken}
 use Rattle.service_walk.specs.Service.{packets_in}
-use Rattle.chain_service.specs.NamedFunctions.{named_behaviour}
+use Rattle.policy_chains.specs.NamedFunctions.{named_behaviour}
 use Rattle.burst_walk.specs.Leading.{IsWritable, classed_items}
 use Rattle.burst_walk.proofs.Growing.{all_writable}
 use Rattle.burst_walk.proofs.Leading.{packets_led, short_packets}

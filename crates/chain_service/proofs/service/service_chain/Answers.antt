@@ -1,7 +1,7 @@
 use Rattle.std.proofs.Common.{◌≡◌, ◌≤◌, ◌∙◌, ap, arith, length, subst, sym}
 use Rattle.segment_run.specs.Segments.{functions_count, pieces_of}
 use Rattle.chain_service.specs.Fitting.{CanRunIn}
-use Rattle.chain_service.specs.Services.{in_graph, pieces_at}
+use Rattle.policy_chains.specs.Services.{in_graph, pieces_at}
 use Rattle.chain_service.proofs.Serving.{few_functions, few_places}
 use Rattle.chain_service.proofs.Written.{can_run}
 use Rattle.chain_service.proofs.service.service_chain.Goals as goal

@@ -5,7 +5,7 @@ use Rattle.std.specs.Iterator.Adapters.{zip_first, zip_second}
 use Rattle.policy_text.specs.Names.{names_at}
 use Rattle.policy_text.specs.declared.policy.ChainPolicy.{ChainPolicy}
 use Rattle.chain_service.specs.Opening.{IsOpeningChain, pieces_in}
-use Rattle.chain_service.specs.Services.{in_graph, pieces_at}
+use Rattle.policy_chains.specs.Services.{in_graph, pieces_at}
 use Rattle.chain_service.specs.declared.service.ServiceChain.{ServiceChain}
 use Rattle.chain_service.proofs.Chaining.{IsUnderway, goes_on_with, next_underway, counted_on, ends, all_declared, all_names, all_pieces}
 use Rattle.chain_service.proofs.service.service_chains.Goals as goal

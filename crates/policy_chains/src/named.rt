@@ -15,10 +15,10 @@ pub struct NamedFunction {
 }
 
 impl Function for NamedFunction {
-    ghost use Rattle.chain_service.specs.NamedFunctions.{named_behaviour, named_lines};
-    ghost use Rattle.chain_service.specs.NamedFunctionLaws.{named_keeps};
-    ghost use Rattle.chain_service.specs.NamedNotes.{named_notes, named_counts};
-    ghost use Rattle.chain_service.specs.StateRows.{named_rows};
+    ghost use Rattle.policy_chains.specs.NamedFunctions.{named_behaviour, named_lines};
+    ghost use Rattle.policy_chains.specs.NamedFunctionLaws.{named_keeps};
+    ghost use Rattle.policy_chains.specs.NamedNotes.{named_notes, named_counts};
+    ghost use Rattle.policy_chains.specs.StateRows.{named_rows};
 
     ghost behaviour = { named_behaviour };
 

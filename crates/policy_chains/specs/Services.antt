@@ -20,8 +20,8 @@ use Rattle.net_functions.specs.declared.making.Made.{Made}
 use Rattle.net_functions.specs.declared.making.Made.TheVariants as made
 use Rattle.nf_tunnel.specs.Tunnels.{encapsulated, decapsulated}
 use Rattle.piece_walk.specs.Pieces.{Piece, Graph, Whole}
-use Rattle.chain_service.specs.NamedFunctions.{named_behaviour}
-use Rattle.chain_service.specs.declared.named.NamedFunction.{NamedFunction}
+use Rattle.policy_chains.specs.NamedFunctions.{named_behaviour}
+use Rattle.policy_chains.specs.declared.named.NamedFunction.{NamedFunction}
 
 -- What runs: the chains as they are declared, in the order of the text, the names of the functions of each, in chain
 -- order, and its pieces.

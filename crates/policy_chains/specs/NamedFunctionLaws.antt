@@ -2,7 +2,7 @@
 use Rattle.std.proofs.Common.{ap}
 use Rattle.chain_walk.specs.Laws.{KeepsProfile}
 use Rattle.net_functions.specs.NetFunctionLaws.{net_keeps}
-use Rattle.chain_service.specs.NamedFunctions.{named_behaviour}
+use Rattle.policy_chains.specs.NamedFunctions.{named_behaviour}
 
 pub named_keeps : KeepsProfile named_behaviour
 named_keeps = record {

@@ -7,8 +7,8 @@ use Rattle.chain_walk.specs.declared.verdict.Verdict.TheVariants as verdicts
 use Rattle.packet_function.specs.declared.note.FlowNote.{FlowNote}
 use Rattle.net_functions.specs.NetFunctions.{net_behaviour}
 use Rattle.net_functions.specs.NetNotes.{net_counts, net_notes}
-use Rattle.chain_service.specs.NamedFunctions.{named_behaviour}
-use Rattle.chain_service.specs.declared.named.NamedFunction.{NamedFunction}
+use Rattle.policy_chains.specs.NamedFunctions.{named_behaviour}
+use Rattle.policy_chains.specs.declared.named.NamedFunction.{NamedFunction}
 
 abbrev pub named_notes : Notes NamedFunction FlowNote
 named_notes = record {

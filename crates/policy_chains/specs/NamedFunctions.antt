@@ -3,7 +3,7 @@ use Rattle.std.specs.Prelude.{ℕ, List, map}
 use Rattle.chain_walk.specs.Shown.{Shown}
 use Rattle.chain_walk.specs.Step.{Step, Behaviour}
 use Rattle.net_functions.specs.NetFunctions.{lines_of, net_behaviour}
-use Rattle.chain_service.specs.declared.named.NamedFunction.{NamedFunction}
+use Rattle.policy_chains.specs.declared.named.NamedFunction.{NamedFunction}
 
 -- it does what its function does, and keeps its name
 abbrev pub named_step : NamedFunction → Shown → Step NamedFunction
