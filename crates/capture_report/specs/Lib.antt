@@ -1,4 +1,3 @@
-pub mod FaultLines
 pub mod Report
 pub mod Telling
 pub mod BurstWalk

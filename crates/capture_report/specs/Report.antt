@@ -22,8 +22,8 @@ use Rattle.policy_text.specs.declared.policy.FunctionDecl.{FunctionDecl}
 use Rattle.text_lines.specs.Texts.{joined}
 use Rattle.burst_walk.specs.ChainService.{Chains, NamedFunction, named_behaviour, named_lines}
 use Rattle.burst_walk.specs.Fates.{all_classed, chains_behind, fates_of}
-use Rattle.capture_report.specs.FaultLines.{fault_text}
-use Rattle.capture_report.specs.declared.fault.FormatFault.{FormatFault}
+use Rattle.capture_items.specs.FaultLines.{fault_text}
+use Rattle.capture_items.specs.declared.fault.FormatFault.{FormatFault}
 
 abbrev pub title : List ℕ
 title = codes "nfp report 1\n"

@@ -1,6 +1,6 @@
 //! How a run ended.
 
-use crate::fault::FormatFault;
+use capture_items::FormatFault;
 
 /// The number of records that were read, and of their packets that were dropped.
 #[derive(Clone, Copy, Debug, PartialEq, Eq)]

@@ -13,16 +13,14 @@
 #![tactic(auto)]
 
 mod ended;
-mod fault;
 mod gone;
 mod lines;
 mod named;
 mod report;
 
 pub use ended::{Ended, Totals};
-pub use fault::FormatFault;
 pub use gone::count_gone;
-pub use lines::{capture_line, fault_line, ng_line, totals_line};
+pub use lines::totals_line;
 pub use named::function_named;
 pub use report::{
     TITLE, burst_lines, push_copies_lines, push_function_line, push_last_line, push_totals_line,

@@ -8,10 +8,10 @@ ghost use Rattle.capture_report.specs.Report.{dropped_by, drop_text, drop_line, 
 ghost use Rattle.capture_report.specs.Telling.{names_in};
 
 use crate::ended::Totals;
-use crate::fault::FormatFault;
-use crate::lines::{fault_line, totals_line};
+use crate::lines::totals_line;
 use action_profile::all_fields;
 use burst_walk::ServiceChain;
+use capture_items::{FormatFault, fault_line};
 use chain_walk::Fate;
 use classifier::Item;
 use packet_fields::Field;

@@ -12,10 +12,11 @@ use Rattle.capture_run.specs.Running.{Goes, PassesStream, RunBreaks, RunsAll, Wr
 use Rattle.capture_run.specs.Slots.{Breaks, Puts}
 use Rattle.capture_report.specs.Telling.{told_text}
 use Rattle.capture_report.specs.declared.ended.Ended.{Ended}
-use Rattle.capture_report.specs.declared.fault.FormatFault.{FormatFault}
-use Rattle.capture_run.specs.Streams.{Stream, emitted_among, records_in}
+use Rattle.capture_items.specs.declared.fault.FormatFault.{FormatFault}
+use Rattle.capture_items.specs.Streams.{Stream, records_in}
+use Rattle.capture_run.specs.Streams.{emitted_among}
 use Rattle.capture_run.specs.declared.fault.RunFault.{RunFault}
-use Rattle.capture_run.specs.declared.given.Given.{Given}
+use Rattle.capture_items.specs.declared.given.Given.{Given}
 use Rattle.capture_run.specs.declared.passage.Passage.{Passage}
 use Rattle.capture_run.specs.Putting.{earlier_cause, later_more}
 use Rattle.capture_run.proofs.Running.{broken_goes, for_each, goes_by, if_some}

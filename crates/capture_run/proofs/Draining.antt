@@ -3,24 +3,13 @@ use Rattle.std.proofs.Common.{◌≡◌, ℕ, List, [], sym, subst}
 use Rattle.std.specs.Prelude.{Option, Some, None, IfNone, IfOk, IfSome, Result, Ok, Err}
 use Rattle.nfp_outside.specs.declared.slot.Slot.{Slot}
 use Rattle.nfp_outside.specs.Outside.{SlotView}
-use Rattle.pcap_io.specs.Reader as pcap
-use Rattle.pcapng_io.specs.Reader as ng
-use Rattle.pcapng_io.specs.declared.place.Place.{Place}
-use Rattle.capture_report.specs.declared.fault.FormatFault.{FormatFault}
+use Rattle.capture_items.specs.declared.fault.FormatFault.{FormatFault}
 use Rattle.capture_run.specs.Passing.{StopEnds}
-use Rattle.capture_run.specs.Slots.{IsDrained}
 use Rattle.capture_run.specs.declared.fault.RunFault.{RunFault}
-use Rattle.capture_run.specs.declared.fault.SourceFault.{SourceFault}
-use Rattle.capture_run.specs.declared.fault.SourceFault.TheVariants as refusals
-use Rattle.capture_run.specs.declared.given.Given.{Given}
+use Rattle.capture_items.specs.declared.fault.SourceFault.{SourceFault}
+use Rattle.capture_items.specs.declared.fault.SourceFault.TheVariants as refusals
+use Rattle.capture_items.specs.declared.given.Given.{Given}
 use Rattle.capture_run.specs.declared.passage.Passage.{Passage}
-
--- nothing was left, and so nothing is
-pub pcap_at_end : (before after : pcap.ReaderState) (old new : SlotView) → pcap.IsAtEnd before after old new → IsDrained new
-pcap_at_end before after old new end = subst (λ o. IfSome o (λ bytes. bytes ≡ [])) (sym end.left) end.empty
-
-pub ng_at_end : (before : Place) (old new : SlotView) → ng.IsAtEnd before old new → IsDrained new
-ng_at_end before old new end = subst (λ o. IfSome o (λ bytes. bytes ≡ [])) (sym end.left) end.empty
 
 if_none : {T : Type 0} (o : Option T) (P : Type 0) → P → IfNone o P
 if_none None P h = h

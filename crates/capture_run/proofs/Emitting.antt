@@ -13,9 +13,10 @@ use Rattle.classifier.specs.declared.burst.Item.{Item}
 use Rattle.capture_run.specs.Emitted.{emitted, wire_after}
 use Rattle.capture_report.specs.BurstWalkProofs.{IsWritable, all_ended, ended}
 use Rattle.capture_run.specs.Slots.{Puts, Breaks}
-use Rattle.capture_run.specs.Streams.{emitted_among, held_in, spelled_with}
+use Rattle.capture_items.specs.Streams.{spelled_with}
+use Rattle.capture_run.specs.Streams.{emitted_among, held_in}
 use Rattle.capture_run.specs.declared.fault.RunFault.{RunFault}
-use Rattle.capture_run.specs.declared.given.Given.{Given}
+use Rattle.capture_items.specs.declared.given.Given.{Given}
 use Rattle.capture_run.specs.Putting.{puts_none, puts_more, puts_is, breaks_more, breaks_longer, breaks_is}
 
 -- what is put for these packets, by the fates that their chains gave

@@ -7,7 +7,6 @@ pub mod Gathering
 pub mod HandingOn
 pub mod Listing
 pub mod Passing
-pub mod Refusing
 pub mod Running
 pub mod Streaming
 pub mod Telling

@@ -4,9 +4,10 @@ use Rattle.chain_walk.specs.declared.walk.Fate.{Fate}
 use Rattle.classifier.specs.declared.burst.Item.{Item}
 use Rattle.capture_report.specs.BurstWalkProofs.{records_of}
 use Rattle.capture_run.specs.Emitted.{emitted}
-use Rattle.capture_run.specs.Streams.{emitted_among, held_in, records_in, spelled_with}
-use Rattle.capture_run.specs.declared.given.Given.{Given}
-use Rattle.capture_run.specs.declared.given.Given.TheVariants.{Packet, Block}
+use Rattle.capture_items.specs.Streams.{records_in, spelled_with}
+use Rattle.capture_run.specs.Streams.{emitted_among, held_in}
+use Rattle.capture_items.specs.declared.given.Given.{Given}
+use Rattle.capture_items.specs.declared.given.Given.TheVariants.{Packet, Block}
 
 pub records-append : {X B : Type 0} (xs ys : List (Given X B)) → records_in (xs ++ ys) ≡ records_in xs ++ records_in ys
 records-append [] ys = refl

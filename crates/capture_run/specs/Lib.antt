@@ -1,11 +1,9 @@
 pub mod Emitted
 pub mod EmittedNg
-pub mod Formats
 pub mod Passing
 pub mod Putting
 pub mod Running
 pub mod Slots
-pub mod Sources
 pub mod Streams
 pub mod BurstWalk
 pub mod BurstWalkProofs
@@ -13,7 +11,6 @@ pub mod CaptureReport
 pub mod CaptureReportProofs
 pub mod ChainService
 pub mod ChainServiceProofs
-pub mod FormatFaultVariants
 pub mod GraphRun
 pub mod NetFunctions
 pub mod SegmentRun

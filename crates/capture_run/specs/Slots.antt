@@ -1,5 +1,5 @@
 -- For proofs: what a run puts into Out and Report, step by step.
-use Rattle.std.specs.Prelude.{◌≡◌, ◌≤◌, ℕ, List, [], ◌++◌, IfSome}
+use Rattle.std.specs.Prelude.{◌≡◌, ◌≤◌, ℕ, List, [], ◌++◌}
 use Rattle.nfp_outside.specs.declared.slot.Slot.{Slot}
 use Rattle.nfp_outside.specs.declared.slot.Slot.TheVariants.{Policy, Capture, Out, Report, Note, Graph}
 use Rattle.nfp_outside.specs.declared.slot.OutsideFault.{OutsideFault}
@@ -13,10 +13,6 @@ pub record IsLater (old new : Slot → SlotView) : Type 0 where
   pub capture : (old Capture).faults ≤ (new Capture).faults
   pub out : (old Out).faults ≤ (new Out).faults
   pub report : (old Report).faults ≤ (new Report).faults
-
--- nothing is left in a slot that is read, if the desk shows it
-abbrev pub IsDrained : SlotView → Type 0
-IsDrained slot = IfSome slot.bytes (λ bytes. bytes ≡ [])
 
 -- These bytes are appended after those of Out and Report.
 pub record Puts (out report : List ℕ) (old new : Slot → SlotView) : Type 0 where

@@ -5,12 +5,13 @@ ghost use Rattle.chain_walk.specs.declared.walk.Fate.TheVariants.{Out};
 ghost use Rattle.capture_run.specs.Emitted.{emitted, emitted_record, wire_after};
 ghost use Rattle.capture_report.specs.BurstWalkProofs.{IsWritable, all_ended, ended};
 ghost use Rattle.capture_run.specs.Slots.{Puts, Breaks};
-ghost use Rattle.capture_run.specs.Streams.{emitted_among, held_in, spelled_with};
+ghost use Rattle.capture_items.specs.Streams.{spelled_with};
+ghost use Rattle.capture_run.specs.Streams.{emitted_among, held_in};
 
 use crate::fault::RunFault;
-use crate::sink::Sink;
 use crate::write::put_packet;
 use capture_bytes::PcapRecord;
+use capture_items::Sink;
 use chain_walk::Fate;
 use classifier::Item;
 use nfp_outside::Desk;

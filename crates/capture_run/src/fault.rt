@@ -1,21 +1,9 @@
-//! Why a capture isn't read further, and why a run was aborted.
+//! Why a run was aborted.
 ghost use Rattle.std.specs.Prelude.{◌≡◌};
 ghost use Rattle.capture_run.specs.declared.fault.RunFault.TheVariants.{OutOfMemory};
 
-use capture_report::FormatFault;
 use nfp_outside::Slot;
 use std::alloc::{AllocError, AllocFailed};
-
-/// Why a source returned nothing more.
-#[derive(Clone, Copy, Debug, PartialEq, Eq)]
-pub enum SourceFault {
-    /// The capture has this fault, and isn't read further.
-    Format(FormatFault),
-    /// The capture couldn't be read further.
-    ReadFault,
-    /// Out of memory.
-    OutOfMemory,
-}
 
 /// Why a run was aborted before the end of its capture, or before everything was written.
 #[derive(Clone, Copy, Debug, PartialEq, Eq)]

@@ -7,9 +7,9 @@ ghost use Rattle.capture_run.specs.Streams.{held_in};
 
 use crate::emit::put_emitted;
 use crate::fault::RunFault;
-use crate::sink::Sink;
 use crate::write::put_text;
 use capture_bytes::Unit;
+use capture_items::Sink;
 use capture_report::{Merging, Service, Totals, burst_lines, count_gone, walk_burst};
 use classifier::Burst;
 use nfp_outside::{Desk, Gate};

@@ -8,10 +8,10 @@ use Rattle.pcap_io.specs.declared.capture.CaptureFault.{CaptureFault}
 use Rattle.pcap_io.specs.declared.capture.CaptureFault.TheVariants.{BadMagic, BadVersion, BadLink, CutHead, CutRecord, FrameTooLong, TooManyRecords}
 use Rattle.pcapng_io.specs.Blocks.{is_of_first_block}
 use Rattle.capture_run.specs.CaptureReportProofs.{Ended, Totals}
-use Rattle.capture_run.specs.CaptureReport.{FormatFault}
-use Rattle.capture_run.specs.FormatFaultVariants as formats
+use Rattle.capture_items.specs.declared.fault.FormatFault.{FormatFault}
+use Rattle.capture_items.specs.declared.fault.FormatFault.TheVariants as formats
 use Rattle.capture_run.specs.Slots.{IsBroken}
-use Rattle.capture_run.specs.Sources.{IsOpeningFault}
+use Rattle.capture_items.specs.Sources.{IsOpeningFault}
 use Rattle.capture_run.specs.declared.fault.RunFault.{RunFault}
 use Rattle.capture_run.specs.declared.fault.RunFault.TheVariants as faults
 use Rattle.nfp_run.specs.declared.outcome.Outcome.{Outcome}

@@ -21,7 +21,7 @@ use Rattle.demo_capture.specs.declared.summary.Summary.{Summary}
 use Rattle.demo_capture.specs.DemoCapture.{policy_text, policy_lines, demo_head, demo_records, whole_body}
 use Rattle.capture_run.specs.BurstWalk.{fates_of}
 use Rattle.capture_run.specs.CaptureReportProofs.{Ended}
-use Rattle.capture_run.specs.Formats.{pcap_spelled, pcap_stream}
+use Rattle.capture_items.specs.Formats.{pcap_spelled, pcap_stream}
 use Rattle.capture_run.specs.Running.{Counts, WritesAll}
 use Rattle.capture_run.specs.Slots.{Puts}
 use Rattle.nfp_run.specs.DemoNote.{demo_summary}

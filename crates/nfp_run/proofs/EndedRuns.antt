@@ -20,11 +20,12 @@ use Rattle.capture_run.specs.ChainService.{Chains}
 use Rattle.capture_run.specs.CaptureReportProofs.{Ended, Totals}
 use Rattle.capture_run.specs.declared.fault.RunFault.{RunFault}
 use Rattle.capture_run.specs.declared.fault.RunFault.TheVariants as faults
-use Rattle.capture_run.specs.CaptureReport.{FormatFault, is_gone}
-use Rattle.capture_run.specs.FormatFaultVariants as formats
-use Rattle.capture_run.specs.Formats.{PacketBeside, ng_left, ng_stream}
+use Rattle.capture_run.specs.CaptureReport.{is_gone}
+use Rattle.capture_items.specs.declared.fault.FormatFault.{FormatFault}
+use Rattle.capture_items.specs.declared.fault.FormatFault.TheVariants as formats
+use Rattle.capture_items.specs.Formats.{PacketBeside, ng_left, ng_stream}
 use Rattle.capture_run.specs.Running.{Counts}
-use Rattle.capture_run.specs.Streams.{Stream}
+use Rattle.capture_items.specs.Streams.{Stream}
 use Rattle.capture_run.specs.Slots.{IsBroken}
 use Rattle.nfp_run.specs.declared.ending.Ending.{Ending}
 use Rattle.nfp_run.specs.declared.outcome.Outcome.TheVariants.{WriteFault}

@@ -13,7 +13,7 @@ use Rattle.pcap_io.specs.declared.capture.CaptureFault.TheVariants.{BadMagic, Ba
 use Rattle.pcap_io.specs.declared.capture.CaptureHead.{CaptureHead}
 use Rattle.graph_text.specs.declared.fault.GraphFault.{GraphFault}
 use Rattle.policy_judge.specs.declared.fault.PolicyFault.{PolicyFault}
-use Rattle.capture_run.specs.FormatFaultVariants.{Pcap}
+use Rattle.capture_items.specs.declared.fault.FormatFault.TheVariants.{Pcap}
 use Rattle.capture_run.specs.declared.fault.RunFault.{RunFault}
 use Rattle.capture_run.specs.declared.fault.RunFault.TheVariants as faults
 use Rattle.command_words.specs.declared.requests.FlowOptions.{FlowOptions}

@@ -20,14 +20,15 @@ use Rattle.capture_run.specs.ChainService.{Chains}
 use Rattle.capture_run.specs.BurstWalk.{fates_of}
 use Rattle.capture_run.specs.CaptureReport.{is_gone, report_of}
 use Rattle.capture_run.specs.CaptureReportProofs.{Ended}
-use Rattle.capture_run.specs.FormatFaultVariants as formats
+use Rattle.capture_items.specs.declared.fault.FormatFault.TheVariants as formats
 use Rattle.capture_run.specs.Emitted.{emitted, emitted_all, emitted_record, out_bytes}
 use Rattle.capture_run.specs.EmittedNg.{ng_out_bytes, records_among}
-use Rattle.capture_run.specs.Formats.{PacketBeside, ng_given, ng_spelled, ng_stream, pcap_given, pcap_spelled, pcap_stream}
+use Rattle.capture_items.specs.Formats.{PacketBeside, ng_given, ng_spelled, ng_stream, pcap_given, pcap_spelled, pcap_stream}
 use Rattle.capture_run.specs.Running.{Goes, WritesAll, WriteBreaks}
 use Rattle.capture_run.specs.Putting.{earlier_cause, later_more}
 use Rattle.capture_run.specs.Slots.{Breaks, Puts, PutsPrefixes}
-use Rattle.capture_run.specs.Streams.{Stream, emitted_among, records_in}
+use Rattle.capture_items.specs.Streams.{Stream, records_in}
+use Rattle.capture_run.specs.Streams.{emitted_among}
 use Rattle.capture_run.specs.declared.fault.RunFault.{RunFault}
 use Rattle.nfp_run.specs.Closing.{LedPartly, LedWhole}
 use Rattle.nfp_run.specs.Heads.{growth_of, written_head}

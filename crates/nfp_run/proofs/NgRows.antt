@@ -34,7 +34,8 @@ use Rattle.capture_run.specs.SegmentRun.{copies_through}
 use Rattle.capture_run.specs.ChainService.{cut as cut_chain}
 use Rattle.capture_run.specs.BurstWalk.{chains_behind, fates_of}
 use Rattle.capture_run.specs.EmittedNg.{ng_out_bytes}
-use Rattle.capture_run.specs.CaptureReport.{chain_lines, copies_due, copies_lines, drop_lines, drop_text, function_text, last_line, ng_text, report_bytes, summary, total_line}
+use Rattle.capture_run.specs.CaptureReport.{chain_lines, copies_due, copies_lines, drop_lines, drop_text, function_text, last_line, report_bytes, summary, total_line}
+use Rattle.capture_items.specs.FaultLines.{ng_text}
 use Rattle.nfp_run.specs.Notes.{done_text}
 use Rattle.packet_fields.specs.Writing.{written_in}
 use Rattle.action_profile.specs.Modes.{mode_of, copies}

@@ -6,8 +6,8 @@ use Rattle.nfp_outside.specs.declared.slot.Slot.TheVariants as slots
 use Rattle.nfp_outside.specs.Outside.{ReadsAll, SlotView}
 use Rattle.pcap_io.specs.declared.capture.CaptureFault.{CaptureFault}
 use Rattle.capture_run.specs.CaptureReportProofs.{Ended}
-use Rattle.capture_run.specs.CaptureReport.{FormatFault}
-use Rattle.capture_run.specs.FormatFaultVariants as formats
+use Rattle.capture_items.specs.declared.fault.FormatFault.{FormatFault}
+use Rattle.capture_items.specs.declared.fault.FormatFault.TheVariants as formats
 use Rattle.capture_run.specs.declared.fault.RunFault.{RunFault}
 use Rattle.capture_run.specs.declared.fault.RunFault.TheVariants as faults
 use Rattle.command_words.specs.declared.usage.UsageFault.{UsageFault}

@@ -50,7 +50,8 @@ use Rattle.capture_run.specs.SegmentRun.{copies_through}
 use Rattle.capture_run.specs.ChainService.{cut}
 use Rattle.capture_run.specs.BurstWalk.{chains_behind, fates_of}
 use Rattle.capture_run.specs.Emitted.{emitted_all, out_bytes}
-use Rattle.capture_run.specs.CaptureReport.{capture_text, chain_lines, copies_due, copies_lines, copies_text, drop_lines, drop_text, function_text, last_line, report_bytes, summary, total_line}
+use Rattle.capture_run.specs.CaptureReport.{chain_lines, copies_due, copies_lines, copies_text, drop_lines, drop_text, function_text, last_line, report_bytes, summary, total_line}
+use Rattle.capture_items.specs.FaultLines.{capture_text}
 use Rattle.nfp_run.specs.Heads.{written_head}
 use Rattle.nfp_run.specs.Notes.{done_text}
 use Rattle.nfp_run.specs.Plan.{plan_text}

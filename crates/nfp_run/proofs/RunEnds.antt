@@ -4,7 +4,7 @@ use Rattle.std.specs.Prelude.{false, true, Some, None, IfSome, Ok, Err}
 use Rattle.nfp_outside.specs.declared.slot.Slot.{Slot}
 use Rattle.nfp_outside.specs.declared.slot.Slot.TheVariants as slots
 use Rattle.nfp_outside.specs.Outside.{SlotView}
-use Rattle.capture_run.specs.CaptureReport.{capture_text, ng_text}
+use Rattle.capture_items.specs.FaultLines.{capture_text, ng_text}
 use Rattle.capture_run.specs.ChainService.{Chains}
 use Rattle.command_words.specs.declared.requests.RunOptions.{RunOptions}
 use Rattle.command_words.specs.Words.{Names, Run}

@@ -9,11 +9,12 @@ use Rattle.nfp_run.specs.declared.ending.Ending.{Ending}
 use Rattle.nfp_run.specs.declared.ending.Ending.TheVariants.{Completed, Shown, Refused, GraphRefused, Stopped}
 use Rattle.capture_run.specs.CaptureReportProofs.{Ended, Totals}
 use Rattle.capture_run.specs.declared.fault.RunFault.{RunFault}
-use Rattle.capture_run.specs.CaptureReport.{FormatFault, capture_text, ng_text}
-use Rattle.capture_run.specs.FormatFaultVariants.{Ng, Pcap}
+use Rattle.capture_items.specs.FaultLines.{capture_text, ng_text}
+use Rattle.capture_items.specs.declared.fault.FormatFault.{FormatFault}
+use Rattle.capture_items.specs.declared.fault.FormatFault.TheVariants.{Ng, Pcap}
 use Rattle.capture_run.specs.Running.{Counts, Goes}
 use Rattle.capture_run.specs.Slots.{IsBroken, Puts, PutsPrefixes}
-use Rattle.capture_run.specs.Sources.{IsOpeningFault}
+use Rattle.capture_items.specs.Sources.{IsOpeningFault}
 use Rattle.nfp_run.specs.Notes.{usage_text, done_text, read_fault_text, write_fault_text}
 use Rattle.nfp_run.specs.Broken.{broken_by}
 use Rattle.nfp_run.specs.Due.{Due}

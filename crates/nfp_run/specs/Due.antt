@@ -17,8 +17,10 @@ use Rattle.nfp_run.specs.declared.outcome.Outcome.TheVariants as outcomes
 use Rattle.command_words.specs.declared.usage.UsageFault.{UsageFault}
 use Rattle.command_words.specs.Words.{Command, Run, Plan, Demo, Flows, command_of}
 use Rattle.capture_run.specs.ChainService.{Chains}
-use Rattle.capture_run.specs.CaptureReport.{FormatFault, capture_text, fault_text, is_gone, ng_text}
-use Rattle.capture_run.specs.FormatFaultVariants.{Ng, Pcap}
+use Rattle.capture_run.specs.CaptureReport.{is_gone}
+use Rattle.capture_items.specs.FaultLines.{capture_text, fault_text, ng_text}
+use Rattle.capture_items.specs.declared.fault.FormatFault.{FormatFault}
+use Rattle.capture_items.specs.declared.fault.FormatFault.TheVariants.{Ng, Pcap}
 use Rattle.nfp_run.specs.Written.{Files, Led, both, led_ng, led_pcap, neither, out_alone}
 use Rattle.nfp_run.specs.DemoNote.{demo_text}
 use Rattle.nfp_run.specs.Notes.{usage_text, done_text, flows_text}

@@ -15,8 +15,9 @@ use Rattle.pcapng_io.specs.declared.item.NgItem.{NgItem}
 use Rattle.capture_run.specs.ChainService.{Chains}
 use Rattle.capture_run.specs.BurstWalk.{fates_of}
 use Rattle.capture_run.specs.CaptureReport.{report_of}
-use Rattle.capture_run.specs.Formats.{PacketBeside, is_asked, ng_left, ng_packets, ng_spelled, ng_stream}
-use Rattle.capture_run.specs.Streams.{Stream, emitted_among, records_in}
+use Rattle.capture_items.specs.Formats.{PacketBeside, is_asked, ng_left, ng_packets, ng_spelled, ng_stream}
+use Rattle.capture_items.specs.Streams.{Stream, records_in}
+use Rattle.capture_run.specs.Streams.{emitted_among}
 use Rattle.policy_judge.specs.declared.fault.JudgeFault.{JudgeFault}
 use Rattle.policy_judge.specs.declared.fault.JudgeFault.TheVariants as faults
 use Rattle.policy_judge.specs.Judging.{judged, told}

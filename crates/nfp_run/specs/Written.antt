@@ -10,8 +10,9 @@ use Rattle.capture_run.specs.ChainService.{Chains}
 use Rattle.capture_run.specs.BurstWalk.{fates_of}
 use Rattle.capture_run.specs.Emitted.{out_bytes}
 use Rattle.capture_run.specs.EmittedNg.{ng_out_bytes, records_among}
-use Rattle.capture_run.specs.CaptureReport.{FormatFault, report_of}
-use Rattle.capture_run.specs.FormatFaultVariants.{Ng, Pcap}
+use Rattle.capture_run.specs.CaptureReport.{report_of}
+use Rattle.capture_items.specs.declared.fault.FormatFault.{FormatFault}
+use Rattle.capture_items.specs.declared.fault.FormatFault.TheVariants.{Ng, Pcap}
 use Rattle.nfp_run.specs.Heads.{growth_of, written_head}
 
 -- What chains write: the bytes of Out and of Report.

@@ -1,9 +1,9 @@
 //! The records of a demo, as a source.
 ghost use Rattle.std.specs.Prelude.{◌≡◌, Some, true, ⊤};
 ghost use Rattle.demo_capture.specs.DemoCapture.{demo_records, whole_body};
-ghost use Rattle.capture_run.specs.Formats.{pcap_stream};
+ghost use Rattle.capture_items.specs.Formats.{pcap_stream};
 
-use capture_run::{Given, NoBlock, Source, SourceFault};
+use capture_items::{Given, NoBlock, Source, SourceFault};
 use command_words::DemoInput;
 use demo_capture::DemoRecords;
 use nfp_outside::Desk;

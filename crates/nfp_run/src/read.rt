@@ -14,7 +14,7 @@ ghost use Rattle.nfp_run.specs.FlowsRan.{OpensClassic, RefusedClassic};
 use crate::ending::Ending;
 use crate::outcome::Outcome;
 use capture_bytes::fill;
-use capture_run::NgSource;
+use capture_items::NgSource;
 use nfp_outside::{Desk, DeskFault, OutsideFault, Slot, read_all};
 use pcap_io::{CaptureHead, PcapFault, Reader};
 use pcapng_io::NgReadFault;

@@ -13,9 +13,9 @@ ghost use Rattle.nfp_run.specs.Closing.{outcome_seen, closed, ending_of, Left, L
 ghost use Rattle.nfp_run.specs.Reading.{IsBefore, led_stream, opened_led};
 ghost use Rattle.nfp_run.specs.Due.{due_of_command};
 ghost use Rattle.nfp_run.specs.Written.{led_pcap};
-ghost use Rattle.capture_run.specs.Formats.{is_asked, ng_left, ng_packets};
+ghost use Rattle.capture_items.specs.Formats.{is_asked, ng_left, ng_packets};
 ghost use Rattle.capture_run.specs.Slots.{IsBroken};
-ghost use Rattle.capture_run.specs.Sources.{IsOpeningFault};
+ghost use Rattle.capture_items.specs.Sources.{IsOpeningFault};
 ghost use Rattle.command_words.specs.Named.{IsInRange, names_seen};
 ghost use Rattle.capture_run.specs.ChainServiceProofs.{IsOpening, chains_of};
 
@@ -27,7 +27,8 @@ use crate::prepare::read_service;
 use crate::read::{Opened, open_capture};
 use crate::ways::merging_by;
 use capture_bytes::Unit;
-use capture_run::{Ended, FormatFault, NgSource, NgWriter, RunFault, Service, run_capture};
+use capture_items::{FormatFault, NgSource, NgWriter};
+use capture_run::{Ended, RunFault, Service, run_capture};
 use command_words::{FileNames, RunOptions};
 use nfp_outside::{Desk, Gate, Slot};
 use pcap_io::{CaptureHead, Reader};

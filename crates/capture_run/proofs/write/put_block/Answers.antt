@@ -1,6 +1,6 @@
 use Rattle.std.proofs.Common.{[], subst, sym}
 use Rattle.capture_run.specs.Slots.{Breaks}
-use Rattle.capture_run.specs.declared.given.Given.TheVariants.{Block}
+use Rattle.capture_items.specs.declared.given.Given.TheVariants.{Block}
 use Rattle.capture_run.specs.Putting.{puts_out, out_refused}
 use Rattle.capture_run.proofs.write.put_block.Goals as goal
 

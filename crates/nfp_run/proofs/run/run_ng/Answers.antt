@@ -1,7 +1,7 @@
 use Rattle.std.proofs.lemmas.Result.{IfErr-weaker, IfOk-weaker}
 use Rattle.nfp_outside.specs.declared.slot.Slot.TheVariants.{Capture}
 use Rattle.capture_run.specs.ChainServiceProofs.{chains_of}
-use Rattle.capture_run.specs.Formats.{ng_left}
+use Rattle.capture_items.specs.Formats.{ng_left}
 use Rattle.nfp_run.proofs.Formats.{ng_partly, ng_whole}
 use Rattle.nfp_run.proofs.run.run_ng.Goals as goal
 

@@ -4,7 +4,7 @@ use Rattle.std.proofs.lemmas.Result.{IfErr-weaker, IfOk-weaker}
 use Rattle.nfp_outside.specs.declared.slot.Slot.TheVariants.{Capture}
 use Rattle.pcap_io.specs.Reader.{body_left}
 use Rattle.capture_run.specs.ChainServiceProofs.{chains_of}
-use Rattle.capture_run.specs.Formats.{pcap_left, pcap_spelled}
+use Rattle.capture_items.specs.Formats.{pcap_left, pcap_spelled}
 use Rattle.capture_run.specs.Running.{WriteBreaks, WritesAll}
 use Rattle.capture_run.specs.declared.fault.RunFault.{RunFault}
 use Rattle.nfp_run.proofs.Formats.{at_head, pcap_partly, pcap_whole}

@@ -2,9 +2,9 @@
 ghost use Rattle.std.specs.Prelude.{◌≡◌, ◌≢◌, ◌<◌, ◌^◌, ℕ, List, IsSome, OnErr, OnOk, length};
 ghost use Rattle.nfp_outside.specs.declared.slot.Slot.{Slot};
 ghost use Rattle.nfp_outside.specs.Outside.{Appends, AppendsPrefix, WriteCause};
-ghost use Rattle.capture_run.specs.Streams.{spelled_with};
-ghost use Rattle.capture_run.specs.declared.given.Given.{Given};
-ghost use Rattle.capture_run.specs.declared.given.Given.TheVariants.{Block};
+ghost use Rattle.capture_items.specs.Streams.{spelled_with};
+ghost use Rattle.capture_items.specs.declared.given.Given.{Given};
+ghost use Rattle.capture_items.specs.declared.given.Given.TheVariants.{Block};
 
 use capture_bytes::PcapRecord;
 use nfp_outside::{Desk, OutsideFault, Slot};

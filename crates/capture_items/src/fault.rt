@@ -11,3 +11,14 @@ pub enum FormatFault {
     /// The fault of a pcapng capture.
     Ng(NgFault),
 }
+
+/// Why a source returned nothing more.
+#[derive(Clone, Copy, Debug, PartialEq, Eq)]
+pub enum SourceFault {
+    /// The capture has this fault, and isn't read further.
+    Format(FormatFault),
+    /// The capture couldn't be read further.
+    ReadFault,
+    /// Out of memory.
+    OutOfMemory,
+}

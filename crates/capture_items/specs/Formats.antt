@@ -13,11 +13,11 @@ use Rattle.pcapng_io.specs.Written.{item_bytes, packet_bytes, packet_with}
 use Rattle.pcapng_io.specs.declared.item.NgItem.{NgItem}
 use Rattle.pcapng_io.specs.declared.item.NgItem.TheVariants as items
 use Rattle.pcapng_io.specs.declared.item.NgPacket.{NgPacket}
-use Rattle.capture_report.specs.declared.fault.FormatFault.TheVariants.{Pcap, Ng}
-use Rattle.capture_run.specs.Streams.{Stream, with_given}
-use Rattle.capture_run.specs.declared.given.Given.{Given}
-use Rattle.capture_run.specs.declared.given.Given.TheVariants.{Packet, Block}
-use Rattle.capture_run.specs.declared.pcap.NoBlock.{NoBlock}
+use Rattle.capture_items.specs.declared.fault.FormatFault.TheVariants.{Pcap, Ng}
+use Rattle.capture_items.specs.Streams.{Stream, with_given}
+use Rattle.capture_items.specs.declared.given.Given.{Given}
+use Rattle.capture_items.specs.declared.given.Given.TheVariants.{Packet, Block}
+use Rattle.capture_items.specs.declared.pcap.NoBlock.{NoBlock}
 
 -- a classic capture gives records, and nothing beside them
 abbrev pub pcap_given : PcapRecord → Given (Unit {0}) NoBlock

@@ -1,14 +1,13 @@
 //! Classic captures: records, and nothing besides.
 ghost use Rattle.std.specs.Prelude.{not};
-ghost use Rattle.capture_run.specs.Formats.{pcap_left, pcap_spelled};
-ghost use Rattle.capture_run.specs.Slots.{IsDrained};
+ghost use Rattle.capture_items.specs.Formats.{pcap_left, pcap_spelled};
+ghost use Rattle.capture_items.specs.Streams.{IsDrained};
 
-use crate::fault::SourceFault;
+use crate::fault::{FormatFault, SourceFault};
 use crate::given::Given;
 use crate::sink::Sink;
 use crate::source::Source;
 use capture_bytes::PcapRecord;
-use capture_report::FormatFault;
 use nfp_outside::{Desk, OutsideFault};
 use pcap_io::{PcapFault, Reader, Writer};
 use std::alloc::Global;

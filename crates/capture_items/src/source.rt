@@ -2,9 +2,9 @@
 ghost use Rattle.std.specs.Prelude.{◌≡◌, ◌≢◌, ◌≤◌, ℕ, [], Bool, true, None, Option, IfNone, IfOk, IfSome, IsErrOf, IsSome, OnOk};
 ghost use Rattle.nfp_outside.specs.declared.slot.Slot.{Slot};
 ghost use Rattle.nfp_outside.specs.Outside.{IsRisen, SlotView};
-ghost use Rattle.capture_report.specs.declared.fault.FormatFault.{FormatFault};
-ghost use Rattle.capture_run.specs.Sources.{GivesNext, RefusesNext};
-ghost use Rattle.capture_run.specs.Streams.{Stream};
+ghost use Rattle.capture_items.specs.declared.fault.FormatFault.{FormatFault};
+ghost use Rattle.capture_items.specs.Sources.{GivesNext, RefusesNext};
+ghost use Rattle.capture_items.specs.Streams.{Stream};
 
 use crate::fault::SourceFault;
 use crate::given::Given;

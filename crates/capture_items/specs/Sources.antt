@@ -4,10 +4,10 @@ use Rattle.std.specs.Option.{option_map}
 use Rattle.nfp_outside.specs.Outside.{SlotView}
 use Rattle.pcap_io.specs.Capture.{IsHeadFault}
 use Rattle.pcapng_io.specs.Blocks.{is_of_first_block}
-use Rattle.capture_report.specs.declared.fault.FormatFault.{FormatFault}
-use Rattle.capture_report.specs.declared.fault.FormatFault.TheVariants.{Pcap, Ng}
-use Rattle.capture_run.specs.Streams.{HasNumber, IsShortGiven, Stream, count_given, with_given}
-use Rattle.capture_run.specs.declared.given.Given.{Given}
+use Rattle.capture_items.specs.declared.fault.FormatFault.{FormatFault}
+use Rattle.capture_items.specs.declared.fault.FormatFault.TheVariants.{Pcap, Ng}
+use Rattle.capture_items.specs.Streams.{HasNumber, IsShortGiven, Stream, count_given, with_given}
+use Rattle.capture_items.specs.declared.given.Given.{Given}
 
 -- a fault by which a capture isn't opened at all
 abbrev pub IsOpeningFault : FormatFault → Type 0

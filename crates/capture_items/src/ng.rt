@@ -7,17 +7,16 @@ ghost use Rattle.capture_bytes.specs.Filling.{unread};
 ghost use Rattle.pcapng_io.specs.Blocks.{is_of_first_block, start};
 ghost use Rattle.pcapng_io.specs.Reader.{IsShortItem, IsWritable, ReaderCause, RefusesBlock, blocks_left, next_left};
 ghost use Rattle.pcapng_io.specs.declared.fault.NgFault.{NgFault};
-ghost use Rattle.capture_report.specs.declared.fault.FormatFault.{FormatFault};
-ghost use Rattle.capture_run.specs.Formats.{is_asked, ng_behind, ng_given, ng_left, ng_packets, ng_spelled, ng_stream, ng_taken};
-ghost use Rattle.capture_run.specs.Slots.{IsDrained};
-ghost use Rattle.capture_run.specs.Sources.{GivesNext, RefusesNext};
+ghost use Rattle.capture_items.specs.declared.fault.FormatFault.{FormatFault};
+ghost use Rattle.capture_items.specs.Formats.{is_asked, ng_behind, ng_given, ng_left, ng_packets, ng_spelled, ng_stream, ng_taken};
+ghost use Rattle.capture_items.specs.Streams.{IsDrained};
+ghost use Rattle.capture_items.specs.Sources.{GivesNext, RefusesNext};
 
-use crate::fault::SourceFault;
+use crate::fault::{FormatFault, SourceFault};
 use crate::given::Given;
 use crate::sink::Sink;
 use crate::source::Source;
 use capture_bytes::{Endian, PcapRecord};
-use capture_report::FormatFault;
 use nfp_outside::{Desk, OutsideFault, Slot};
 use packet_fields::Frame;
 use pcapng_io::{NgItem, NgPacket, NgReadFault, NgReader, put_item, put_packet};
@@ -35,7 +34,7 @@ pub struct Beside {
 }
 
 impl Model for Beside {
-    ghost use Rattle.capture_run.specs.Formats.{AreOptions, PacketBeside};
+    ghost use Rattle.capture_items.specs.Formats.{AreOptions, PacketBeside};
 
     ghost Value = { PacketBeside };
 
@@ -109,7 +108,7 @@ pub struct NgSource {
 
 impl Model for NgSource {
     ghost use Rattle.std.specs.Prelude.{IfSome};
-    ghost use Rattle.capture_run.specs.Formats.{IsFirst, SourceState};
+    ghost use Rattle.capture_items.specs.Formats.{IsFirst, SourceState};
 
     ghost Value = { SourceState };
 

@@ -12,12 +12,12 @@ use Rattle.pcapng_io.specs.Reader as ng
 use Rattle.pcapng_io.specs.declared.fault.NgFault.{NgFault}
 use Rattle.pcapng_io.specs.declared.item.NgItem.{NgItem}
 use Rattle.pcapng_io.specs.declared.place.Place.{Place}
-use Rattle.capture_report.specs.declared.fault.FormatFault.{FormatFault}
-use Rattle.capture_report.specs.declared.fault.FormatFault.TheVariants.{Pcap, Ng}
-use Rattle.capture_run.specs.Formats.{ng_behind, ng_stream, pcap_left, pcap_stream}
-use Rattle.capture_run.specs.Sources.{RefusesNext}
-use Rattle.capture_run.specs.declared.fault.SourceFault.{SourceFault}
-use Rattle.capture_run.specs.declared.fault.SourceFault.TheVariants as refusals
+use Rattle.capture_items.specs.declared.fault.FormatFault.{FormatFault}
+use Rattle.capture_items.specs.declared.fault.FormatFault.TheVariants.{Pcap, Ng}
+use Rattle.capture_items.specs.Formats.{ng_behind, ng_stream, pcap_left, pcap_stream}
+use Rattle.capture_items.specs.Sources.{RefusesNext}
+use Rattle.capture_items.specs.declared.fault.SourceFault.{SourceFault}
+use Rattle.capture_items.specs.declared.fault.SourceFault.TheVariants as refusals
 
 none_of_a_head : (given : ℕ) (fault : CaptureFault) → IsRecordFault given fault → ¬ IsHeadFault fault
 none_of_a_head given BadMagic is = absurd is

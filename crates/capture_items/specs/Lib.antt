@@ -1,0 +1,4 @@
+pub mod FaultLines
+pub mod Formats
+pub mod Sources
+pub mod Streams
