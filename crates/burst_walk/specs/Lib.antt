@@ -4,6 +4,5 @@ pub mod Mergers
 pub mod ChainService
 pub mod ChainServiceProofs
 pub mod GraphRun
-pub mod NetFunctions
 pub mod SegmentRun
 pub mod SegmentRunProofs

@@ -5,5 +5,4 @@ pub mod BurstWalkProofs
 pub mod ChainService
 pub mod ChainServiceProofs
 pub mod GraphRun
-pub mod NetFunctions
 pub mod SegmentRun

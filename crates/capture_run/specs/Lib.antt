@@ -11,6 +11,3 @@ pub mod CaptureReport
 pub mod CaptureReportProofs
 pub mod ChainService
 pub mod ChainServiceProofs
-pub mod GraphRun
-pub mod NetFunctions
-pub mod SegmentRun

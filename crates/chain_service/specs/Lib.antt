@@ -4,6 +4,5 @@ pub mod Opening
 pub mod Shown
 pub mod Taking
 pub mod GraphRun
-pub mod NetFunctions
 pub mod SegmentRun
 pub mod SegmentRunProofs

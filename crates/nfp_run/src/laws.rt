@@ -5,9 +5,7 @@ ghost use Rattle.pcap_io.specs.declared.capture.CaptureHead.{CaptureHead};
 ghost use Rattle.capture_bytes.specs.declared.packet.PcapRecord.{PcapRecord};
 ghost use Rattle.pcapng_io.specs.Blocks.{blocks_of, next_of, start};
 ghost use Rattle.pcapng_io.specs.declared.item.NgItem.{NgItem};
-ghost use Rattle.policy_judge.specs.Judging.{judged};
 ghost use Rattle.nfp_run.specs.declared.outcome.Outcome.{Outcome};
-ghost use Rattle.demo_capture.specs.DemoCapture.{policy_text};
 ghost use Rattle.nfp_run.specs.Due.{due, is_ng};
 ghost use Rattle.nfp_run.specs.Preparing.{prepared};
 ghost use Rattle.nfp_run.specs.declared.prepared.Prepared.{Prepared};
@@ -29,9 +27,4 @@ pub fn a_good_call_is_done()
     ensures demo { (words : List (List ℕ)) → (input : DemoInput) → (options : RunOptions) → (p g c : List ℕ) → command_of words ≡ Ok (Demo input options) → (due words p g c).outcome ≡ Outcome.Done }
     ensures flows { (words : List (List ℕ)) → (names : FlowFiles) → (options : FlowOptions) → (p g c : List ℕ) → (head : CaptureHead) → (records : List PcapRecord) →
         command_of words ≡ Ok (Flows names options) → capture_of c ≡ Ok (head, record { records = records; fault = None }) → (due words p g c).outcome ≡ Outcome.Done }
-{}
-
-/// A law: the policy of a demo has no fault, so a demo has chains to run.
-pub fn the_demo_policy_has_no_fault()
-    ensures { IsOk (judged policy_text) }
 {}

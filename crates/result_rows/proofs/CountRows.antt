@@ -16,7 +16,8 @@ use Rattle.policy_check.specs.Edges.{edges_of}
 use Rattle.policy_check.specs.Refusals.{first_refusal}
 use Rattle.policy_check.specs.Turns.{taken, stuck}
 use Rattle.policy_judge.specs.Judging.{orders_from}
-use Rattle.capture_run.specs.NetFunctions.{lines_of, making_of, profile_by, step_by}
+use Rattle.net_functions.specs.NetFunctions.{lines_of, profile_by, step_by}
+use Rattle.net_functions.specs.Builds.{making_of}
 use Rattle.nf_filter.specs.Firewalls.{passes}
 use Rattle.nf_filter.specs.Lines.{line_of}
 use Rattle.nf_observe.specs.StateLines.{flow_line, endpoint_text, source_line}
@@ -29,9 +30,9 @@ use Rattle.nfp_run.specs.Due.{due_of_plan, due_of_run, nothing_but}
 use Rattle.piece_walk.specs.PiecePackets.{passed}
 use Rattle.piece_walk.specs.Pieces.{long}
 use Rattle.service_walk.specs.Service.{fates_among, chains_after}
-use Rattle.capture_run.specs.SegmentRun.{copies_through}
-use Rattle.capture_run.specs.ChainService.{cut}
-use Rattle.capture_run.specs.BurstWalk.{chains_behind, fates_of}
+use Rattle.segment_run.specs.Counting.{copies_through}
+use Rattle.graph_compile.specs.Cutting.{cut}
+use Rattle.burst_walk.specs.Fates.{chains_behind, fates_of}
 use Rattle.capture_run.specs.Emitted.{emitted_all, out_bytes}
 use Rattle.nfp_run.specs.Notes.{done_text}
 use Rattle.nfp_run.specs.Plan.{plan_text}
@@ -39,11 +40,11 @@ use Rattle.packet_fields.specs.Writing.{written_in}
 use Rattle.action_profile.specs.Modes.{mode_of, copies}
 use Rattle.graph_compile.specs.Parts.{branch_reads, branch_writes, touch_of, stage_parts}
 use Rattle.graph_compile.specs.Stages.{is_forbidden, holds_back, placed, graph_of}
-use Rattle.capture_run.specs.GraphRun.{copies_made}
-use Rattle.capture_run.specs.CaptureReport.{chain_lines, copies_due, copies_lines, drop_lines, drop_text, function_text, last_line, report_bytes, summary, total_line}
+use Rattle.graph_run.specs.Counting.{copies_made}
+use Rattle.capture_report.specs.Report.{chain_lines, copies_due, copies_lines, drop_lines, drop_text, function_text, last_line, report_bytes, summary, total_line}
 use Rattle.nf_observe.specs.LimiterLines.{line_of as limiter_line_of}
 use Rattle.plan_text.specs.Plan.{branch_text, chain_plan, part_line, pieces_text, stage_text}
-use Rattle.nfp_run.proofs.Rows.{head, first, ninth, capture, worth}
+use Rattle.result_rows.proofs.Rows.{head, first, ninth, capture, worth}
 
 -- ---- a monitor after a firewall, beside it in the graph, counts what the firewall passes
 

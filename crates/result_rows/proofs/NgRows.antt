@@ -19,7 +19,8 @@ use Rattle.policy_check.specs.Turns.{taken, stuck}
 use Rattle.nfp_run.specs.Preparing.{Unprepared, prepared_by}
 use Rattle.nfp_run.specs.declared.prepared.Prepared.{Prepared}
 use Rattle.policy_judge.specs.Judging.{judged_text, orders_from}
-use Rattle.capture_run.specs.NetFunctions.{lines_of, making_of, profile_by, step_by}
+use Rattle.net_functions.specs.NetFunctions.{lines_of, profile_by, step_by}
+use Rattle.net_functions.specs.Builds.{making_of}
 use Rattle.nf_filter.specs.Firewalls.{passes}
 use Rattle.nf_filter.specs.Lines.{line_of}
 use Rattle.chain_walk.specs.Packets.{fates}
@@ -30,18 +31,18 @@ use Rattle.nfp_run.specs.Due.{due_of_run, nothing_but}
 use Rattle.piece_walk.specs.PiecePackets.{passed as passed_on}
 use Rattle.piece_walk.specs.Pieces.{long}
 use Rattle.service_walk.specs.Service.{fates_among, chains_after}
-use Rattle.capture_run.specs.SegmentRun.{copies_through}
-use Rattle.capture_run.specs.ChainService.{cut as cut_chain}
-use Rattle.capture_run.specs.BurstWalk.{chains_behind, fates_of}
+use Rattle.segment_run.specs.Counting.{copies_through}
+use Rattle.graph_compile.specs.Cutting.{cut as cut_chain}
+use Rattle.burst_walk.specs.Fates.{chains_behind, fates_of}
 use Rattle.capture_run.specs.EmittedNg.{ng_out_bytes}
-use Rattle.capture_run.specs.CaptureReport.{chain_lines, copies_due, copies_lines, drop_lines, drop_text, function_text, last_line, report_bytes, summary, total_line}
+use Rattle.capture_report.specs.Report.{chain_lines, copies_due, copies_lines, drop_lines, drop_text, function_text, last_line, report_bytes, summary, total_line}
 use Rattle.capture_items.specs.FaultLines.{ng_text}
 use Rattle.nfp_run.specs.Notes.{done_text}
 use Rattle.packet_fields.specs.Writing.{written_in}
 use Rattle.action_profile.specs.Modes.{mode_of, copies}
 use Rattle.graph_compile.specs.Parts.{branch_reads, branch_writes, touch_of, stage_parts}
 use Rattle.graph_compile.specs.Stages.{is_forbidden, holds_back, placed, graph_of}
-use Rattle.capture_run.specs.GraphRun.{copies_made}
+use Rattle.graph_run.specs.Counting.{copies_made}
 
 -- no section length, little-endian
 section : List ℕ

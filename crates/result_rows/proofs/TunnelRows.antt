@@ -27,7 +27,8 @@ use Rattle.nfp_run.specs.Preparing.{Unprepared, prepared_by}
 use Rattle.nfp_run.specs.declared.prepared.Prepared.{Prepared}
 use Rattle.policy_judge.specs.Judging.{judged_text, orders_from}
 use Rattle.policy_judge.specs.Lines.{setting_line, check_line, priority_line}
-use Rattle.capture_run.specs.NetFunctions.{lines_of, making_of, profile_by, step_by}
+use Rattle.net_functions.specs.NetFunctions.{lines_of, profile_by, step_by}
+use Rattle.net_functions.specs.Builds.{making_of}
 use Rattle.nf_mark.specs.MarkerLines.{line_of as marker_line_of}
 use Rattle.nf_mark.specs.Markers.{tos_for}
 use Rattle.nf_tunnel.specs.OuterHeaders.{outer_header}
@@ -38,12 +39,12 @@ use Rattle.chain_walk.specs.Walk.{walk}
 use Rattle.piece_walk.specs.PiecePackets.{passed}
 use Rattle.piece_walk.specs.Pieces.{long}
 use Rattle.service_walk.specs.Service.{fates_among, chains_after}
-use Rattle.capture_run.specs.GraphRun.{copies_made}
-use Rattle.capture_run.specs.SegmentRun.{copies_through}
-use Rattle.capture_run.specs.ChainService.{cut}
-use Rattle.capture_run.specs.BurstWalk.{chains_behind, fates_of}
+use Rattle.graph_run.specs.Counting.{copies_made}
+use Rattle.segment_run.specs.Counting.{copies_through}
+use Rattle.graph_compile.specs.Cutting.{cut}
+use Rattle.burst_walk.specs.Fates.{chains_behind, fates_of}
 use Rattle.capture_run.specs.Emitted.{emitted_all, out_bytes}
-use Rattle.capture_run.specs.CaptureReport.{chain_lines, copies_due, copies_lines, drop_lines, drop_text, function_text, last_line, report_bytes, summary, total_line}
+use Rattle.capture_report.specs.Report.{chain_lines, copies_due, copies_lines, drop_lines, drop_text, function_text, last_line, report_bytes, summary, total_line}
 use Rattle.nfp_run.specs.declared.outcome.Outcome.TheVariants.{Done, Policy}
 use Rattle.nfp_run.specs.Due.{due_of_run, nothing_but}
 use Rattle.nfp_run.specs.Notes.{done_text}

@@ -22,7 +22,8 @@ use Rattle.nfp_run.specs.Preparing.{Unprepared}
 use Rattle.nfp_run.specs.declared.prepared.Prepared.{Prepared}
 use Rattle.policy_judge.specs.Judging.{judged_text, orders_from}
 use Rattle.policy_judge.specs.Lines.{text_line}
-use Rattle.capture_run.specs.NetFunctions.{lines_of, making_of, profile_by, step_by}
+use Rattle.net_functions.specs.NetFunctions.{lines_of, profile_by, step_by}
+use Rattle.net_functions.specs.Builds.{making_of}
 use Rattle.nf_filter.specs.Firewalls.{passes}
 use Rattle.nf_filter.specs.Lines.{line_of}
 use Rattle.nf_observe.specs.StateLines.{flow_line, endpoint_text}
@@ -35,9 +36,9 @@ use Rattle.nfp_run.specs.Due.{due_of_plan, due_of_run, nothing_but}
 use Rattle.piece_walk.specs.PiecePackets.{passed}
 use Rattle.piece_walk.specs.Pieces.{long}
 use Rattle.service_walk.specs.Service.{fates_among, chains_after}
-use Rattle.capture_run.specs.SegmentRun.{copies_through}
-use Rattle.capture_run.specs.ChainService.{cut}
-use Rattle.capture_run.specs.BurstWalk.{chains_behind, fates_of}
+use Rattle.segment_run.specs.Counting.{copies_through}
+use Rattle.graph_compile.specs.Cutting.{cut}
+use Rattle.burst_walk.specs.Fates.{chains_behind, fates_of}
 use Rattle.capture_run.specs.Emitted.{emitted_all, out_bytes}
 use Rattle.nfp_run.specs.Notes.{done_text}
 use Rattle.nfp_run.specs.Plan.{plan_text}
@@ -45,8 +46,8 @@ use Rattle.packet_fields.specs.Writing.{written_in}
 use Rattle.action_profile.specs.Modes.{mode_of, copies}
 use Rattle.graph_compile.specs.Parts.{branch_reads, branch_writes, touch_of, stage_parts}
 use Rattle.graph_compile.specs.Stages.{is_forbidden, holds_back, placed, graph_of}
-use Rattle.capture_run.specs.GraphRun.{copies_made}
-use Rattle.capture_run.specs.CaptureReport.{chain_lines, copies_due, copies_lines, drop_lines, drop_text, function_text, last_line, report_bytes, summary, total_line}
+use Rattle.graph_run.specs.Counting.{copies_made}
+use Rattle.capture_report.specs.Report.{chain_lines, copies_due, copies_lines, drop_lines, drop_text, function_text, last_line, report_bytes, summary, total_line}
 use Rattle.graph_text.specs.Faults.{faultless}
 use Rattle.graph_text.specs.Graphs.{graph_due, graphs_of_utf8}
 use Rattle.graph_text.specs.Listing.{after_line as graph_after_line, listed_by}

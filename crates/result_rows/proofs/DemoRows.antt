@@ -18,7 +18,7 @@ use Rattle.policy_text.specs.declared.fault.TextFault.TheVariants.{NotUtf8}
 use Rattle.policy_judge.specs.declared.fault.PolicyFault.TheVariants.{TooLong}
 use Rattle.policy_judge.specs.Judging.{judged, judged_text, orders_from, told}
 use Rattle.policy_judge.specs.Lines.{too_long_line}
-use Rattle.capture_run.specs.NetFunctions.{making_of}
+use Rattle.net_functions.specs.Builds.{making_of}
 use Rattle.nf_filter.specs.Lines.{line_of as firewall_line_of}
 use Rattle.nf_translate.specs.NatLines.{line_of as nat_line_of}
 use Rattle.nf_translate.specs.BalancerLines.{line_of as balancer_line_of}

@@ -1,2 +1,0 @@
--- For proofs: names of net_functions, for the higher crates.
-unfoldable pub use Rattle.burst_walk.specs.NetFunctions.{lines_of, making_of, profile_by, step_by}

@@ -1,5 +1,0 @@
-use Rattle.nfp_run.proofs.DemoRows.{demo_is_judged}
-use Rattle.nfp_run.proofs.laws.the_demo_policy_has_no_fault.Goals as goal
-
-pub returns : goal.returns
-returns c = demo_is_judged
