@@ -23,6 +23,7 @@ use Rattle.text_lines.specs.Texts.{joined}
 use Rattle.burst_walk.specs.ChainService.{Chains, NamedFunction, named_behaviour, named_lines}
 use Rattle.burst_walk.specs.Fates.{all_classed, chains_behind, fates_of}
 use Rattle.capture_items.specs.FaultLines.{fault_text}
+use Rattle.capture_items.specs.Totals.{total_line}
 use Rattle.capture_items.specs.declared.fault.FormatFault.{FormatFault}
 
 abbrev pub title : List ℕ
@@ -58,11 +59,6 @@ drop_lines names first classes fates = flat_map (λ x. drop_line names x.0 x.1.0
 abbrev pub is_gone : Fate → Bool
 is_gone (Out frame) = false
 is_gone (Gone position) = true
-
--- `records N emitted E dropped D`
-unfoldable pub total_line : ℕ → ℕ → List ℕ
-total_line records dropped =
-    joined (codes "records " ∷ decimal records ∷ codes " emitted " ∷ decimal (records - dropped) ∷ codes " dropped " ∷ decimal dropped ∷ codes "\n" ∷ [])
 
 -- the number of copies of a field that a chain's pieces make for its packets; a count stops at 2^64 - 1
 unfoldable pub copies_due : List (List (Piece NamedFunction)) → List Classed → ℕ → Field → ℕ

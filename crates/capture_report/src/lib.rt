@@ -14,13 +14,11 @@
 
 mod ended;
 mod gone;
-mod lines;
 mod named;
 mod report;
 
-pub use ended::{Ended, Totals};
+pub use ended::Ended;
 pub use gone::count_gone;
-pub use lines::totals_line;
 pub use named::function_named;
 pub use report::{
     TITLE, burst_lines, push_copies_lines, push_function_line, push_last_line, push_totals_line,

@@ -4,14 +4,13 @@ ghost use Rattle.packet_version.specs.Tallies.{count_of};
 ghost use Rattle.burst_walk.specs.ChainServiceProofs.{chains_of};
 ghost use Rattle.burst_walk.specs.Leading.{all_ended, ended};
 ghost use Rattle.action_profile.specs.Kinds.{kind_name};
-ghost use Rattle.capture_report.specs.Report.{dropped_by, drop_text, drop_line, drop_lines, names_among, total_line, copies_text, copies_line, copies_lines, function_text, last_line};
+ghost use Rattle.capture_report.specs.Report.{dropped_by, drop_text, drop_line, drop_lines, names_among, copies_text, copies_line, copies_lines, function_text, last_line};
+ghost use Rattle.capture_items.specs.Totals.{total_line};
 ghost use Rattle.capture_report.specs.Telling.{names_in};
 
-use crate::ended::Totals;
-use crate::lines::totals_line;
 use action_profile::all_fields;
 use burst_walk::ServiceChain;
-use capture_items::{FormatFault, fault_line};
+use capture_items::{FormatFault, Totals, fault_line, totals_line};
 use chain_walk::Fate;
 use classifier::Item;
 use packet_fields::Field;

@@ -11,13 +11,13 @@ use Rattle.capture_report.specs.ChainServiceProofs.{ServiceChain, chains_of}
 use Rattle.capture_report.specs.BurstWalkProofs.{LeadsEach, all_ended, records_of}
 use Rattle.capture_run.specs.Passing.{Advances, PassBreaks, fates_next, lines_next, next_number, out_next, packets_next}
 use Rattle.capture_report.specs.Report.{drop_lines, names_among}
-use Rattle.capture_run.specs.Slots.{Breaks, Puts}
+use Rattle.capture_items.specs.Slots.{Breaks, Puts}
 use Rattle.capture_items.specs.Streams.{records_in}
 use Rattle.capture_run.specs.Streams.{emitted_among, held_in}
-use Rattle.capture_run.specs.declared.fault.RunFault.{RunFault}
+use Rattle.capture_items.specs.declared.fault.RunFault.{RunFault}
 use Rattle.capture_items.specs.declared.given.Given.{Given}
 use Rattle.capture_run.specs.declared.passage.Passage.{Passage}
-use Rattle.capture_run.specs.Putting.{breaks_is, puts_is}
+use Rattle.capture_items.specs.Putting.{breaks_is, puts_is}
 use Rattle.capture_run.proofs.Following.{each_names}
 use Rattle.capture_run.proofs.Passing.{records_refused}
 use Rattle.capture_run.proofs.Streaming.{records_held}

@@ -9,16 +9,16 @@ use Rattle.capture_report.specs.ChainService.{Chains}
 use Rattle.capture_report.specs.BurstWalk.{all_classed, fates_of}
 use Rattle.capture_report.specs.Report.{copies_due, is_gone, summary, title}
 use Rattle.capture_run.specs.Running.{Goes, PassesStream, RunBreaks, RunsAll, WriteBreaks, WritesAll, fates_given}
-use Rattle.capture_run.specs.Slots.{Breaks, Puts}
+use Rattle.capture_items.specs.Slots.{Breaks, Puts}
 use Rattle.capture_report.specs.Telling.{told_text}
 use Rattle.capture_report.specs.declared.ended.Ended.{Ended}
 use Rattle.capture_items.specs.declared.fault.FormatFault.{FormatFault}
 use Rattle.capture_items.specs.Streams.{Stream, records_in}
 use Rattle.capture_run.specs.Streams.{emitted_among}
-use Rattle.capture_run.specs.declared.fault.RunFault.{RunFault}
+use Rattle.capture_items.specs.declared.fault.RunFault.{RunFault}
 use Rattle.capture_items.specs.declared.given.Given.{Given}
 use Rattle.capture_run.specs.declared.passage.Passage.{Passage}
-use Rattle.capture_run.specs.Putting.{earlier_cause, later_more}
+use Rattle.capture_items.specs.Putting.{earlier_cause, later_more}
 use Rattle.capture_run.proofs.Running.{broken_goes, for_each, goes_by, if_some}
 use Rattle.capture_run.proofs.Telling.{summary_told}
 use Rattle.capture_run.proofs.Walking.{length-fates_of}

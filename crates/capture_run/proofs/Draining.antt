@@ -5,7 +5,7 @@ use Rattle.nfp_outside.specs.declared.slot.Slot.{Slot}
 use Rattle.nfp_outside.specs.Outside.{SlotView}
 use Rattle.capture_items.specs.declared.fault.FormatFault.{FormatFault}
 use Rattle.capture_run.specs.Passing.{StopEnds}
-use Rattle.capture_run.specs.declared.fault.RunFault.{RunFault}
+use Rattle.capture_items.specs.declared.fault.RunFault.{RunFault}
 use Rattle.capture_items.specs.declared.fault.SourceFault.{SourceFault}
 use Rattle.capture_items.specs.declared.fault.SourceFault.TheVariants as refusals
 use Rattle.capture_items.specs.declared.given.Given.{Given}

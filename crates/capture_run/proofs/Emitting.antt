@@ -12,12 +12,12 @@ use Rattle.chain_walk.specs.declared.walk.Fate.TheVariants.{Out}
 use Rattle.classifier.specs.declared.burst.Item.{Item}
 use Rattle.capture_run.specs.Emitted.{emitted, wire_after}
 use Rattle.capture_report.specs.BurstWalkProofs.{IsWritable, all_ended, ended}
-use Rattle.capture_run.specs.Slots.{Puts, Breaks}
+use Rattle.capture_items.specs.Slots.{Puts, Breaks}
 use Rattle.capture_items.specs.Streams.{spelled_with}
 use Rattle.capture_run.specs.Streams.{emitted_among, held_in}
-use Rattle.capture_run.specs.declared.fault.RunFault.{RunFault}
+use Rattle.capture_items.specs.declared.fault.RunFault.{RunFault}
 use Rattle.capture_items.specs.declared.given.Given.{Given}
-use Rattle.capture_run.specs.Putting.{puts_none, puts_more, puts_is, breaks_more, breaks_longer, breaks_is}
+use Rattle.capture_items.specs.Putting.{puts_none, puts_more, puts_is, breaks_more, breaks_longer, breaks_is}
 
 -- what is put for these packets, by the fates that their chains gave
 abbrev pub put_of : {X B : Type 0} → (Given X B → List ℕ) → List Item → List X → List (Option Fate) → List ℕ

@@ -15,12 +15,13 @@ use Rattle.policy_text.specs.declared.policy.ChainPolicy.{ChainPolicy}
 use Rattle.policy_text.specs.declared.policy.FunctionDecl.{FunctionDecl}
 use Rattle.capture_report.specs.ChainService.{named_lines}
 use Rattle.capture_report.specs.ChainServiceProofs.{NamedFunction, ServiceChain, pieces_in}
-use Rattle.capture_report.specs.Report.{chain_lines, copies_lines, function_lines, last_line, state_text, total_line}
+use Rattle.capture_report.specs.Report.{chain_lines, copies_lines, function_lines, last_line, state_text}
+use Rattle.capture_items.specs.Totals.{total_line}
 use Rattle.capture_report.specs.Telling.{told_text}
 use Rattle.capture_report.specs.declared.ended.Ended.{Ended}
-use Rattle.capture_run.specs.Slots.{Breaks, Gathers, Puts}
-use Rattle.capture_run.specs.declared.fault.RunFault.{RunFault}
-use Rattle.capture_run.specs.Putting.{breaks_is, breaks_longer, breaks_more, puts_is, puts_more, puts_none}
+use Rattle.capture_items.specs.Slots.{Breaks, Gathers, Puts}
+use Rattle.capture_items.specs.declared.fault.RunFault.{RunFault}
+use Rattle.capture_items.specs.Putting.{breaks_is, breaks_longer, breaks_more, puts_is, puts_more, puts_none}
 
 pub gathers_none : (h : List ℕ) (old : Slot → SlotView) → Gathers [] h h old old
 gathers_none h old = record { put = []; puts = puts_none old; parts = sym (append-nil h) }

@@ -10,14 +10,14 @@ use Rattle.capture_report.specs.BurstWalk.{all_classed, chains_behind, fates_of}
 use Rattle.capture_report.specs.BurstWalkProofs.{LeadsEach}
 use Rattle.capture_run.specs.Passing.{Advances, PassBreaks, Passes, chains_in, fates_next, lines_next, next_number, out_next, packets_next}
 use Rattle.capture_report.specs.Report.{drop_lines, is_gone, names_among}
-use Rattle.capture_run.specs.Slots.{Breaks, Puts}
+use Rattle.capture_items.specs.Slots.{Breaks, Puts}
 use Rattle.capture_items.specs.Streams.{records_in}
 use Rattle.capture_run.specs.Streams.{emitted_among}
-use Rattle.capture_run.specs.declared.fault.RunFault.{RunFault}
+use Rattle.capture_items.specs.declared.fault.RunFault.{RunFault}
 use Rattle.capture_items.specs.declared.given.Given.{Given}
 use Rattle.capture_items.specs.declared.given.Given.TheVariants.{Block}
 use Rattle.capture_run.specs.declared.passage.Passage.{Passage}
-use Rattle.capture_run.specs.Putting.{breaks_is, breaks_longer, breaks_more, puts_is, puts_more, puts_none}
+use Rattle.capture_items.specs.Putting.{breaks_is, breaks_longer, breaks_more, puts_is, puts_more, puts_none}
 use Rattle.capture_run.proofs.Following.{CountsInARow, each_more, each_names, each_none}
 use Rattle.capture_run.proofs.Listing.{gone-append, lines-append, no_lines}
 use Rattle.capture_run.proofs.Streaming.{among-append, none_among, records-append}

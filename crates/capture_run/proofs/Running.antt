@@ -8,14 +8,14 @@ use Rattle.nfp_outside.specs.Outside.{SlotView}
 use Rattle.capture_run.specs.Passing.{PassBreaks, Passes, lines_next, out_next}
 use Rattle.capture_items.specs.declared.fault.FormatFault.{FormatFault}
 use Rattle.capture_run.specs.Running.{Goes, PassesStream, RunBreaks, RunsAll}
-use Rattle.capture_run.specs.Slots.{Breaks, Puts, PutsPrefixes}
+use Rattle.capture_items.specs.Slots.{Breaks, Puts, PutsPrefixes}
 use Rattle.capture_items.specs.Sources.{IsOpeningFault}
 use Rattle.capture_items.specs.Streams.{Stream, records_in, with_given}
-use Rattle.capture_run.specs.declared.fault.RunFault.{RunFault}
-use Rattle.capture_run.specs.declared.fault.RunFault.TheVariants.{OutOfMemory}
+use Rattle.capture_items.specs.declared.fault.RunFault.{RunFault}
+use Rattle.capture_items.specs.declared.fault.RunFault.TheVariants.{OutOfMemory}
 use Rattle.capture_items.specs.declared.given.Given.{Given}
 use Rattle.capture_run.specs.declared.passage.Passage.{Passage}
-use Rattle.capture_run.specs.Putting.{later_same, no_memory}
+use Rattle.capture_items.specs.Putting.{later_same, no_memory}
 use Rattle.capture_run.proofs.Passing.{longer}
 
 pub if_some : {T : Type 0} (o : Option T) (P Q : T → Type 0) → ((b : T) → P b → Q b) → IfSome o P → IfSome o Q

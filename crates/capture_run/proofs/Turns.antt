@@ -20,18 +20,18 @@ use Rattle.capture_items.specs.declared.fault.FormatFault.{FormatFault}
 use Rattle.capture_run.specs.Passing.{Ends, IsFresh, IsTold, PassBreaks, Passes, StopBreaks, StopEnds, TakeBreaks, Takes, chains_in, fates_next}
 use Rattle.capture_report.specs.Report.{is_gone}
 use Rattle.capture_run.specs.Running.{RunsAll, RunBreaks}
-use Rattle.capture_run.specs.Slots.{Breaks, Puts}
+use Rattle.capture_items.specs.Slots.{Breaks, Puts}
 use Rattle.capture_items.specs.Sources.{GivesNext, IsOpeningFault, RefusesNext}
 use Rattle.capture_items.specs.Streams.{HasNumber, Stream, count_given, records_in, with_given}
 use Rattle.capture_run.specs.Streams.{held_in}
-use Rattle.capture_run.specs.declared.fault.RunFault.{RunFault}
-use Rattle.capture_run.specs.declared.fault.RunFault.TheVariants as faults
+use Rattle.capture_items.specs.declared.fault.RunFault.{RunFault}
+use Rattle.capture_items.specs.declared.fault.RunFault.TheVariants as faults
 use Rattle.capture_items.specs.declared.fault.SourceFault.{SourceFault}
 use Rattle.capture_items.specs.declared.fault.SourceFault.TheVariants as refusals
 use Rattle.capture_items.specs.declared.given.Given.{Given}
 use Rattle.capture_items.specs.declared.given.Given.TheVariants.{Packet, Block}
 use Rattle.capture_run.specs.declared.passage.Passage.{Passage}
-use Rattle.capture_run.specs.Putting.{breaks_none, capture_is_not_out, capture_is_not_report, puts_is, puts_more, puts_read}
+use Rattle.capture_items.specs.Putting.{breaks_none, capture_is_not_out, capture_is_not_report, puts_is, puts_more, puts_read}
 use Rattle.capture_run.proofs.Following.{CountsInARow}
 use Rattle.capture_run.proofs.Passing.{breaks_block, breaks_next, longer, passes_block, passes_more, passes_none}
 use Rattle.capture_run.proofs.Running.{breaks_run, runs_all, with_all, with_more, with_none}

@@ -10,9 +10,9 @@ use Rattle.capture_bytes.specs.declared.packet.Unit.{Unit as TimeUnit}
 use Rattle.capture_report.specs.ChainService.{Chains}
 use Rattle.capture_report.specs.BurstWalk.{all_classed, chains_behind, fates_of}
 use Rattle.capture_report.specs.Report.{copies_due, drop_lines, is_gone, names_among, report_bytes, report_of, summary, title}
-use Rattle.capture_run.specs.Slots.{Breaks, Puts}
-use Rattle.capture_run.specs.declared.fault.RunFault.{RunFault}
-use Rattle.capture_run.specs.Putting.{breaks_is, breaks_longer, breaks_more, puts_is, puts_more}
+use Rattle.capture_items.specs.Slots.{Breaks, Puts}
+use Rattle.capture_items.specs.declared.fault.RunFault.{RunFault}
+use Rattle.capture_items.specs.Putting.{breaks_is, breaks_longer, breaks_more, puts_is, puts_more}
 
 -- the lines of the records that were dropped
 abbrev pub lines_due : Chains → TimeUnit → List PcapRecord → List ℕ

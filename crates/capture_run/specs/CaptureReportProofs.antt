@@ -1,3 +1,2 @@
 -- For proofs: names of capture_report, for the higher crates.
 pub use Rattle.capture_report.specs.declared.ended.Ended.{Ended}
-pub use Rattle.capture_report.specs.declared.ended.Totals.{Totals}

@@ -1,9 +1,7 @@
 pub mod Emitted
 pub mod EmittedNg
 pub mod Passing
-pub mod Putting
 pub mod Running
-pub mod Slots
 pub mod Streams
 pub mod BurstWalk
 pub mod BurstWalkProofs

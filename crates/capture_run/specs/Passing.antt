@@ -13,11 +13,11 @@ use Rattle.capture_report.specs.BurstWalk.{all_classed, chains_behind, fates_of}
 use Rattle.capture_report.specs.BurstWalkProofs.{IsClassed, LeadsEach}
 use Rattle.capture_report.specs.Report.{drop_lines, is_gone, names_among}
 use Rattle.capture_items.specs.declared.fault.FormatFault.{FormatFault}
-use Rattle.capture_run.specs.Slots.{Puts, Breaks}
+use Rattle.capture_items.specs.Slots.{Puts, Breaks}
 use Rattle.capture_items.specs.Streams.{count_given, records_in}
 use Rattle.capture_run.specs.Streams.{emitted_among, held_in}
-use Rattle.capture_run.specs.declared.fault.RunFault.{RunFault}
-use Rattle.capture_run.specs.declared.fault.RunFault.TheVariants as faults
+use Rattle.capture_items.specs.declared.fault.RunFault.{RunFault}
+use Rattle.capture_items.specs.declared.fault.RunFault.TheVariants as faults
 use Rattle.capture_items.specs.declared.fault.SourceFault.{SourceFault}
 use Rattle.capture_items.specs.declared.fault.SourceFault.TheVariants as refusals
 use Rattle.capture_items.specs.declared.given.Given.{Given}

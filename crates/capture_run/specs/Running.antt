@@ -9,13 +9,13 @@ use Rattle.capture_report.specs.ChainService.{Chains}
 use Rattle.capture_report.specs.BurstWalk.{fates_of}
 use Rattle.capture_run.specs.Passing.{Passes, out_next, lines_next}
 use Rattle.capture_report.specs.Report.{is_gone, report_of}
-use Rattle.capture_run.specs.Slots.{IsLater, Puts, PutsPrefixes, IsBroken}
+use Rattle.capture_items.specs.Slots.{IsLater, Puts, PutsPrefixes, IsBroken}
 use Rattle.capture_items.specs.Sources.{IsOpeningFault}
 use Rattle.capture_items.specs.Streams.{Stream, records_in}
 use Rattle.capture_run.specs.Streams.{emitted_among}
 use Rattle.capture_report.specs.declared.ended.Ended.{Ended}
 use Rattle.capture_items.specs.declared.fault.FormatFault.{FormatFault}
-use Rattle.capture_run.specs.declared.fault.RunFault.{RunFault}
+use Rattle.capture_items.specs.declared.fault.RunFault.{RunFault}
 use Rattle.capture_items.specs.declared.given.Given.{Given}
 use Rattle.capture_run.specs.declared.passage.Passage.{Passage}
 

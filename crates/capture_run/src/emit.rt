@@ -4,14 +4,12 @@ ghost use Rattle.nfp_outside.specs.declared.slot.Slot.{Slot};
 ghost use Rattle.chain_walk.specs.declared.walk.Fate.TheVariants.{Out};
 ghost use Rattle.capture_run.specs.Emitted.{emitted, emitted_record, wire_after};
 ghost use Rattle.capture_report.specs.BurstWalkProofs.{IsWritable, all_ended, ended};
-ghost use Rattle.capture_run.specs.Slots.{Puts, Breaks};
+ghost use Rattle.capture_items.specs.Slots.{Puts, Breaks};
 ghost use Rattle.capture_items.specs.Streams.{spelled_with};
 ghost use Rattle.capture_run.specs.Streams.{emitted_among, held_in};
 
-use crate::fault::RunFault;
-use crate::write::put_packet;
 use capture_bytes::PcapRecord;
-use capture_items::Sink;
+use capture_items::{RunFault, Sink, put_packet};
 use chain_walk::Fate;
 use classifier::Item;
 use nfp_outside::Desk;

@@ -10,22 +10,16 @@
 //! The part of the report after the lines of the dropped packets goes through one buffer, piece by piece, and each
 //! state line by line: a report of any length needs no more memory than a short one.
 //!
-//! Left out: the head of a capture, which belongs to its format. The reason why a run was aborted is one small
-//! [`RunFault`].
+//! Left out: the head of a capture, which belongs to its format.
 #![tactic(auto)]
 
 mod emit;
-mod fault;
 mod passage;
 mod records;
 mod run;
 mod summary;
-mod write;
 
-pub use fault::RunFault;
 pub use run::run_capture;
 
 // The service, the walk of a burst through it and the report, for the crates above.
-pub use capture_report::{
-    Ended, MergeWay, Mergers, Merging, Service, ServiceChain, Totals, make_service, totals_line,
-};
+pub use capture_report::{Ended, MergeWay, Mergers, Merging, Service, ServiceChain, make_service};

@@ -6,11 +6,9 @@ ghost use Rattle.capture_run.specs.Passing.{IsTold, PassBreaks, Passes};
 ghost use Rattle.capture_run.specs.Streams.{held_in};
 
 use crate::emit::put_emitted;
-use crate::fault::RunFault;
-use crate::write::put_text;
 use capture_bytes::Unit;
-use capture_items::Sink;
-use capture_report::{Merging, Service, Totals, burst_lines, count_gone, walk_burst};
+use capture_items::{RunFault, Sink, Totals, put_text};
+use capture_report::{Merging, Service, burst_lines, count_gone, walk_burst};
 use classifier::Burst;
 use nfp_outside::{Desk, Gate};
 use std::alloc::Global;

@@ -9,11 +9,9 @@ ghost use Rattle.capture_items.specs.Streams.{HasNumber, IsShortGiven};
 ghost use Rattle.capture_run.specs.Streams.{held_in};
 ghost use Rattle.capture_items.specs.declared.given.Given.TheVariants.{Block, Packet};
 
-use crate::fault::RunFault;
 use crate::passage::{Passage, pass_burst};
-use crate::write::put_block;
 use capture_bytes::PcapRecord;
-use capture_items::{FormatFault, Given, Sink, Source, SourceFault};
+use capture_items::{FormatFault, Given, RunFault, Sink, Source, SourceFault, put_block};
 use capture_report::{Merging, NamedFunction, bursts_are_counted_in_a_row};
 use classifier::{Burst, Cutter};
 use nfp_outside::{Desk, Gate};

@@ -4,14 +4,12 @@ ghost use Rattle.nfp_outside.specs.declared.slot.Slot.{Slot};
 ghost use Rattle.capture_report.specs.ChainServiceProofs.{IsOpening, chains_of};
 ghost use Rattle.capture_run.specs.Running.{WritesAll, WriteBreaks};
 
-use crate::fault::RunFault;
 use crate::passage::Passage;
 use crate::records::run_records;
 use crate::summary::put_summary;
-use crate::write::put_text;
 use capture_bytes::Unit;
-use capture_items::{Sink, Source};
-use capture_report::{Ended, Merging, Service, TITLE, Totals};
+use capture_items::{RunFault, Sink, Source, Totals, put_text};
+use capture_report::{Ended, Merging, Service, TITLE};
 use nfp_outside::{Desk, Gate};
 use std::alloc::Global;
 use std::rt::Clock;

@@ -7,14 +7,14 @@ ghost use Rattle.packet_version.specs.Tallies.{count_of};
 ghost use Rattle.capture_report.specs.SegmentRun.{pieces_of};
 ghost use Rattle.capture_report.specs.ChainServiceProofs.{named_rows, pieces_in};
 ghost use Rattle.capture_report.specs.ChainService.{named_lines};
-ghost use Rattle.capture_report.specs.Report.{chain_lines, copies_lines, function_lines, state_text, total_line};
+ghost use Rattle.capture_report.specs.Report.{chain_lines, copies_lines, function_lines, state_text};
+ghost use Rattle.capture_items.specs.Totals.{total_line};
 ghost use Rattle.capture_report.specs.Telling.{told_text};
-ghost use Rattle.capture_run.specs.Slots.{Breaks, Gathers, Puts};
+ghost use Rattle.capture_items.specs.Slots.{Breaks, Gathers, Puts};
 
-use crate::fault::RunFault;
-use crate::write::put_text;
+use capture_items::{RunFault, Totals, put_text};
 use capture_report::{
-    Ended, NamedFunction, Piece, ServiceChain, Totals, function_named, push_copies_lines,
+    Ended, NamedFunction, Piece, ServiceChain, function_named, push_copies_lines,
     push_function_line, push_last_line, push_totals_line,
 };
 use nfp_outside::Desk;

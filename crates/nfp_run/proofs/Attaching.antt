@@ -7,13 +7,14 @@ use Rattle.nfp_outside.specs.Outside.{SlotView}
 use Rattle.pcap_io.specs.declared.capture.CaptureFault.{CaptureFault}
 use Rattle.pcap_io.specs.declared.capture.CaptureFault.TheVariants.{BadMagic, BadVersion, BadLink, CutHead, CutRecord, FrameTooLong, TooManyRecords}
 use Rattle.pcapng_io.specs.Blocks.{is_of_first_block}
-use Rattle.capture_run.specs.CaptureReportProofs.{Ended, Totals}
+use Rattle.capture_run.specs.CaptureReportProofs.{Ended}
+use Rattle.capture_items.specs.declared.totals.Totals.{Totals}
 use Rattle.capture_items.specs.declared.fault.FormatFault.{FormatFault}
 use Rattle.capture_items.specs.declared.fault.FormatFault.TheVariants as formats
-use Rattle.capture_run.specs.Slots.{IsBroken}
+use Rattle.capture_items.specs.Slots.{IsBroken}
 use Rattle.capture_items.specs.Sources.{IsOpeningFault}
-use Rattle.capture_run.specs.declared.fault.RunFault.{RunFault}
-use Rattle.capture_run.specs.declared.fault.RunFault.TheVariants as faults
+use Rattle.capture_items.specs.declared.fault.RunFault.{RunFault}
+use Rattle.capture_items.specs.declared.fault.RunFault.TheVariants as faults
 use Rattle.nfp_run.specs.declared.outcome.Outcome.{Outcome}
 use Rattle.nfp_run.specs.declared.outcome.Outcome.TheVariants.{Done, Usage, Policy, Graph, Capture, CaptureNg, ReadFault, WriteFault, OutOfMemory}
 use Rattle.nfp_run.specs.Answers.{AttachedUnless, BothAttached, FaultAttaches, NoneAttached, RunAttaches}

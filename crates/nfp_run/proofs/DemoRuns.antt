@@ -23,7 +23,7 @@ use Rattle.capture_run.specs.BurstWalk.{fates_of}
 use Rattle.capture_run.specs.CaptureReportProofs.{Ended}
 use Rattle.capture_items.specs.Formats.{pcap_spelled, pcap_stream}
 use Rattle.capture_run.specs.Running.{Counts, WritesAll}
-use Rattle.capture_run.specs.Slots.{Puts}
+use Rattle.capture_items.specs.Slots.{Puts}
 use Rattle.nfp_run.specs.DemoNote.{demo_summary}
 use Rattle.nfp_run.specs.Heads.{written_head}
 use Rattle.nfp_run.specs.Closing.{LedWhole}

@@ -17,16 +17,17 @@ use Rattle.chain_walk.specs.declared.walk.Fate.{Fate}
 use Rattle.command_words.specs.declared.requests.RunOptions.{RunOptions}
 use Rattle.command_words.specs.Words.{Names, Run}
 use Rattle.capture_run.specs.ChainService.{Chains}
-use Rattle.capture_run.specs.CaptureReportProofs.{Ended, Totals}
-use Rattle.capture_run.specs.declared.fault.RunFault.{RunFault}
-use Rattle.capture_run.specs.declared.fault.RunFault.TheVariants as faults
+use Rattle.capture_run.specs.CaptureReportProofs.{Ended}
+use Rattle.capture_items.specs.declared.totals.Totals.{Totals}
+use Rattle.capture_items.specs.declared.fault.RunFault.{RunFault}
+use Rattle.capture_items.specs.declared.fault.RunFault.TheVariants as faults
 use Rattle.capture_run.specs.CaptureReport.{is_gone}
 use Rattle.capture_items.specs.declared.fault.FormatFault.{FormatFault}
 use Rattle.capture_items.specs.declared.fault.FormatFault.TheVariants as formats
 use Rattle.capture_items.specs.Formats.{PacketBeside, ng_left, ng_stream}
 use Rattle.capture_run.specs.Running.{Counts}
 use Rattle.capture_items.specs.Streams.{Stream}
-use Rattle.capture_run.specs.Slots.{IsBroken}
+use Rattle.capture_items.specs.Slots.{IsBroken}
 use Rattle.nfp_run.specs.declared.ending.Ending.{Ending}
 use Rattle.nfp_run.specs.declared.outcome.Outcome.TheVariants.{WriteFault}
 use Rattle.nfp_run.specs.Answers.{HasNoOpeningFault, Holds, HoldsPrefix, IsFinal, IsUntouched, HasTexts, Leaves, LeavesPrefixes, WhereRead, WhereTexts, WriteFaultCause}

@@ -14,8 +14,8 @@ use Rattle.pcap_io.specs.declared.capture.CaptureHead.{CaptureHead}
 use Rattle.graph_text.specs.declared.fault.GraphFault.{GraphFault}
 use Rattle.policy_judge.specs.declared.fault.PolicyFault.{PolicyFault}
 use Rattle.capture_items.specs.declared.fault.FormatFault.TheVariants.{Pcap}
-use Rattle.capture_run.specs.declared.fault.RunFault.{RunFault}
-use Rattle.capture_run.specs.declared.fault.RunFault.TheVariants as faults
+use Rattle.capture_items.specs.declared.fault.RunFault.{RunFault}
+use Rattle.capture_items.specs.declared.fault.RunFault.TheVariants as faults
 use Rattle.command_words.specs.declared.requests.FlowOptions.{FlowOptions}
 use Rattle.command_words.specs.declared.usage.UsageFault.{UsageFault}
 use Rattle.command_words.specs.Words.{Command, FlowFiles, Flows}

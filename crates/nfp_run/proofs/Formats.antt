@@ -25,11 +25,11 @@ use Rattle.capture_run.specs.Emitted.{emitted, emitted_all, emitted_record, out_
 use Rattle.capture_run.specs.EmittedNg.{ng_out_bytes, records_among}
 use Rattle.capture_items.specs.Formats.{PacketBeside, ng_given, ng_spelled, ng_stream, pcap_given, pcap_spelled, pcap_stream}
 use Rattle.capture_run.specs.Running.{Goes, WritesAll, WriteBreaks}
-use Rattle.capture_run.specs.Putting.{earlier_cause, later_more}
-use Rattle.capture_run.specs.Slots.{Breaks, Puts, PutsPrefixes}
+use Rattle.capture_items.specs.Putting.{earlier_cause, later_more}
+use Rattle.capture_items.specs.Slots.{Breaks, Puts, PutsPrefixes}
 use Rattle.capture_items.specs.Streams.{Stream, records_in}
 use Rattle.capture_run.specs.Streams.{emitted_among}
-use Rattle.capture_run.specs.declared.fault.RunFault.{RunFault}
+use Rattle.capture_items.specs.declared.fault.RunFault.{RunFault}
 use Rattle.nfp_run.specs.Closing.{LedPartly, LedWhole}
 use Rattle.nfp_run.specs.Heads.{growth_of, written_head}
 use Rattle.nfp_run.specs.Reading.{led_stream}

@@ -9,7 +9,7 @@ use Rattle.pcap_io.specs.Capture.{Body, capture_of}
 use Rattle.pcap_io.specs.Reader as pcap
 use Rattle.pcap_io.specs.declared.capture.CaptureHead.{CaptureHead}
 use Rattle.pcapng_io.specs.Blocks.{next_of, start}
-use Rattle.capture_run.specs.Putting.{risen_earlier}
+use Rattle.capture_items.specs.Putting.{risen_earlier}
 use Rattle.nfp_run.specs.declared.outcome.Outcome.{Outcome}
 use Rattle.nfp_run.specs.declared.outcome.Outcome.TheVariants.{Done, Usage, Policy, Graph, Capture, CaptureNg, ReadFault, WriteFault, OutOfMemory}
 use Rattle.nfp_run.specs.declared.read.Opened.{Opened}

@@ -4,7 +4,7 @@ use Rattle.nfp_outside.specs.declared.slot.Slot.{Slot}
 use Rattle.nfp_outside.specs.declared.slot.Slot.TheVariants.{Out, Report}
 use Rattle.nfp_outside.specs.Outside.{SlotView}
 use Rattle.nfp_outside.specs.Adding.{appends_more, prefix_longer, prefix_more}
-use Rattle.capture_run.specs.Slots.{IsLater, Puts, PutsPrefixes}
+use Rattle.capture_items.specs.Slots.{IsLater, Puts, PutsPrefixes}
 
 later_more : (old mid new : Slot → SlotView) → IsLater old mid → IsLater mid new → IsLater old new
 later_more old mid new a b = record {

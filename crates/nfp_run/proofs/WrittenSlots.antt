@@ -5,8 +5,8 @@ use Rattle.nfp_outside.specs.declared.slot.Slot.{Slot}
 use Rattle.nfp_outside.specs.declared.slot.Slot.TheVariants as slots
 use Rattle.nfp_outside.specs.Outside.{SlotView, Attaches, KeepsSlot}
 use Rattle.capture_run.specs.CaptureReportProofs.{Ended}
-use Rattle.capture_run.specs.declared.fault.RunFault.{RunFault}
-use Rattle.capture_run.specs.Slots.{Puts, PutsPrefixes}
+use Rattle.capture_items.specs.declared.fault.RunFault.{RunFault}
+use Rattle.capture_items.specs.Slots.{Puts, PutsPrefixes}
 use Rattle.nfp_run.specs.Answers.{Leaves, LeavesPrefixes, ReportBehindOut}
 use Rattle.nfp_run.specs.Closing.{Left, LedPartly, LedWhole}
 use Rattle.nfp_run.specs.Written.{Led, Written, both}

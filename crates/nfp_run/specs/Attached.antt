@@ -4,8 +4,8 @@ use Rattle.nfp_outside.specs.declared.slot.Slot.{Slot}
 use Rattle.nfp_outside.specs.declared.slot.Slot.TheVariants as slots
 use Rattle.nfp_outside.specs.Outside.{SlotView, IsRisen, KeepsSlot}
 use Rattle.capture_run.specs.CaptureReportProofs.{Ended}
-use Rattle.capture_run.specs.declared.fault.RunFault.{RunFault}
-use Rattle.capture_run.specs.declared.fault.RunFault.TheVariants.{ReadFault, WriteFault, OutOfMemory}
+use Rattle.capture_items.specs.declared.fault.RunFault.{RunFault}
+use Rattle.capture_items.specs.declared.fault.RunFault.TheVariants.{ReadFault, WriteFault, OutOfMemory}
 use Rattle.nfp_run.specs.Answers.{BothAttached}
 
 -- why a slot wasn't attached: its count rose, or it ran out of memory

@@ -1,7 +1,7 @@
 -- For proofs: the outcome of a run that was broken off.
 use Rattle.nfp_outside.specs.declared.slot.Slot.TheVariants.{Capture}
-use Rattle.capture_run.specs.declared.fault.RunFault.{RunFault}
-use Rattle.capture_run.specs.declared.fault.RunFault.TheVariants as faults
+use Rattle.capture_items.specs.declared.fault.RunFault.{RunFault}
+use Rattle.capture_items.specs.declared.fault.RunFault.TheVariants as faults
 use Rattle.nfp_run.specs.declared.outcome.Outcome.{Outcome}
 use Rattle.nfp_run.specs.declared.outcome.Outcome.TheVariants.{ReadFault, WriteFault, OutOfMemory}
 

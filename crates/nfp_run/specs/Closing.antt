@@ -7,13 +7,14 @@ use Rattle.nfp_run.specs.declared.outcome.Outcome.{Outcome}
 use Rattle.nfp_run.specs.declared.outcome.Outcome.TheVariants.{Done, Usage, Policy, Graph, Capture, CaptureNg, ReadFault, WriteFault, OutOfMemory}
 use Rattle.nfp_run.specs.declared.ending.Ending.{Ending}
 use Rattle.nfp_run.specs.declared.ending.Ending.TheVariants.{Completed, Shown, Refused, GraphRefused, Stopped}
-use Rattle.capture_run.specs.CaptureReportProofs.{Ended, Totals}
-use Rattle.capture_run.specs.declared.fault.RunFault.{RunFault}
+use Rattle.capture_run.specs.CaptureReportProofs.{Ended}
+use Rattle.capture_items.specs.declared.totals.Totals.{Totals}
+use Rattle.capture_items.specs.declared.fault.RunFault.{RunFault}
 use Rattle.capture_items.specs.FaultLines.{capture_text, ng_text}
 use Rattle.capture_items.specs.declared.fault.FormatFault.{FormatFault}
 use Rattle.capture_items.specs.declared.fault.FormatFault.TheVariants.{Ng, Pcap}
 use Rattle.capture_run.specs.Running.{Counts, Goes}
-use Rattle.capture_run.specs.Slots.{IsBroken, Puts, PutsPrefixes}
+use Rattle.capture_items.specs.Slots.{IsBroken, Puts, PutsPrefixes}
 use Rattle.capture_items.specs.Sources.{IsOpeningFault}
 use Rattle.nfp_run.specs.Notes.{usage_text, done_text, read_fault_text, write_fault_text}
 use Rattle.nfp_run.specs.Broken.{broken_by}

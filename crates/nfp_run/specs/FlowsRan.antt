@@ -8,8 +8,8 @@ use Rattle.pcap_io.specs.Capture.{Body, IsHeadFault, capture_of}
 use Rattle.pcap_io.specs.Reader.{ReaderState, body_left, reader_at}
 use Rattle.pcap_io.specs.declared.capture.CaptureFault.{CaptureFault}
 use Rattle.pcap_io.specs.declared.capture.CaptureHead.{CaptureHead}
-use Rattle.capture_run.specs.declared.fault.RunFault.{RunFault}
-use Rattle.capture_run.specs.declared.fault.RunFault.TheVariants as faults
+use Rattle.capture_items.specs.declared.fault.RunFault.{RunFault}
+use Rattle.capture_items.specs.declared.fault.RunFault.TheVariants as faults
 use Rattle.flow_line.specs.declared.line.FlowLine.{FlowLine}
 use Rattle.flow_run.specs.FlowsOut.{flow_lines}
 use Rattle.nfp_run.specs.Answers.{Leaves, LeavesPrefixes}

@@ -4,7 +4,7 @@ use Rattle.std.specs.Fmt.{decimal}
 use Rattle.nfp_outside.specs.declared.slot.Slot.{Slot}
 use Rattle.nfp_outside.specs.declared.slot.Slot.TheVariants.{Policy, Capture, Out, Report, Note, Graph}
 use Rattle.text_lines.specs.Texts.{joined}
-use Rattle.capture_run.specs.CaptureReport.{total_line}
+use Rattle.capture_items.specs.Totals.{total_line}
 use Rattle.flow_export.specs.Exports.{exported, packet_count}
 use Rattle.flow_line.specs.declared.line.FlowLine.{FlowLine}
 use Rattle.command_words.specs.declared.usage.Option4.{Option4}

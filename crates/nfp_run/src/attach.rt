@@ -4,12 +4,13 @@ ghost use Rattle.nfp_outside.specs.declared.slot.Slot.{Slot};
 ghost use Rattle.nfp_outside.specs.Outside.{is_read, Attaches};
 ghost use Rattle.pcap_io.specs.Written.{head_bytes};
 ghost use Rattle.capture_run.specs.ChainServiceProofs.{chains_of};
-ghost use Rattle.capture_run.specs.Slots.{Puts, Breaks, fault_seen};
+ghost use Rattle.capture_items.specs.Slots.{Puts, Breaks, fault_seen};
 ghost use Rattle.nfp_run.specs.Attached.{RefusesAttaching};
 ghost use Rattle.nfp_run.specs.Heads.{written_head};
 
 use crate::head::written_head;
-use capture_run::{RunFault, Service};
+use capture_items::RunFault;
+use capture_run::Service;
 use nfp_outside::{Desk, DeskFault, OutsideFault, Slot};
 use pcap_io::{CaptureHead, Writer};
 

@@ -8,7 +8,7 @@ ghost use Rattle.demo_capture.specs.DemoCapture.{policy_text, demo_head, demo_re
 ghost use Rattle.capture_run.specs.BurstWalk.{fates_of};
 ghost use Rattle.command_words.specs.Named.{IsInRange};
 ghost use Rattle.capture_run.specs.Running.{Counts};
-ghost use Rattle.capture_run.specs.Slots.{Puts};
+ghost use Rattle.capture_items.specs.Slots.{Puts};
 ghost use Rattle.nfp_run.specs.DemoNote.{demo_summary, demo_text};
 ghost use Rattle.nfp_run.specs.Reading.{DemoEnds};
 ghost use Rattle.nfp_run.specs.Written.{written_of};
@@ -18,7 +18,8 @@ use crate::demo_source::DemoSource;
 use crate::ending::Ending;
 use crate::outcome::Outcome;
 use crate::ways::merging_by;
-use capture_run::{Ended, RunFault, Service, Totals, make_service, run_capture};
+use capture_items::{RunFault, Totals};
+use capture_run::{Ended, Service, make_service, run_capture};
 use command_words::{DemoInput, RunOptions};
 use demo_capture::{Summary, Weighed, head, policy, push_summary};
 use graph_text::no_graphs;

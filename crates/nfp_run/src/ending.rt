@@ -1,7 +1,7 @@
 //! How the work of a call ended, before its line is put into Note.
 
 use crate::outcome::Outcome;
-use capture_run::Totals;
+use capture_items::Totals;
 use graph_text::GraphFault;
 use item_list::Items;
 use policy_judge::Refusal;

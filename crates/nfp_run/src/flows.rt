@@ -16,7 +16,7 @@ use crate::attach::{attach_sink, fault_of};
 use crate::ending::Ending;
 use crate::outcome::Outcome;
 use crate::read::open_classic;
-use capture_run::RunFault;
+use capture_items::RunFault;
 use command_words::{FlowNames, FlowOptions};
 use flow_export::export;
 use flow_line::FlowLine;

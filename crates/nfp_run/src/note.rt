@@ -6,8 +6,7 @@ ghost use Rattle.nfp_run.specs.Closing.{outcome_seen, stop_text, text_of, untold
 
 use crate::ending::{Ending, GraphRefusal};
 use crate::outcome::Outcome;
-use capture_items::{capture_line, ng_line};
-use capture_run::{Totals, totals_line};
+use capture_items::{Totals, capture_line, ng_line, totals_line};
 use command_words::{Option4, UsageFault};
 use item_list::Items;
 use nfp_outside::{Desk, OutsideFault, Slot, write_whole};

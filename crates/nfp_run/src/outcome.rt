@@ -3,7 +3,7 @@ ghost use Rattle.std.specs.Prelude.{◌≡◌};
 ghost use Rattle.nfp_run.specs.declared.outcome.Outcome.TheVariants.{OutOfMemory};
 ghost use Rattle.nfp_run.specs.Status.{status_of};
 
-use capture_run::RunFault;
+use capture_items::RunFault;
 use command_words::UsageFault;
 use graph_text::GraphFault;
 use nfp_outside::Slot;

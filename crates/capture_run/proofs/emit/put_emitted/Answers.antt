@@ -2,7 +2,7 @@ use Rattle.std.proofs.Common.{◌≡◌, [], ◌∷◌, arith, sym, subst}
 use Rattle.std.specs.Prelude.{IsSome}
 use Rattle.capture_run.specs.Emitted.{emitted}
 use Rattle.capture_report.specs.BurstWalkProofs.{ended}
-use Rattle.capture_run.specs.Slots.{Puts, Breaks}
+use Rattle.capture_items.specs.Slots.{Puts, Breaks}
 use Rattle.capture_items.specs.Streams.{spelled_with}
 use Rattle.capture_run.proofs.Emitting.{emitting_begins, emitting_breaks, emitting_ends, emitting_goes_on}
 use Rattle.capture_run.proofs.emit.put_emitted.Goals as goal

@@ -2,9 +2,9 @@ use Rattle.std.proofs.Common.{◌∙◌, [], ap, subst, sym}
 use Rattle.std.specs.Prelude.{Some}
 use Rattle.capture_report.specs.BurstWalkProofs.{ended}
 use Rattle.capture_run.specs.Emitted.{emitted}
-use Rattle.capture_run.specs.Slots.{Puts}
+use Rattle.capture_items.specs.Slots.{Puts}
 use Rattle.capture_items.specs.Streams.{spelled_with}
-use Rattle.capture_run.specs.Putting.{puts_none}
+use Rattle.capture_items.specs.Putting.{puts_none}
 use Rattle.capture_run.proofs.emit.put_fate.Goals as goal
 
 pub returns-in-Some-Gone-clause-ok : goal.returns-in-Some-Gone-clause-ok

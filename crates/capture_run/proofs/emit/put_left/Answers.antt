@@ -1,6 +1,6 @@
 use Rattle.std.proofs.Common.{[], subst}
 use Rattle.std.specs.Prelude.{IfErr, OnOk}
-use Rattle.capture_run.specs.Slots.{Breaks, Puts}
+use Rattle.capture_items.specs.Slots.{Breaks, Puts}
 use Rattle.capture_items.specs.Streams.{spelled_with}
 use Rattle.capture_run.proofs.emit.put_left.Goals as goal
 

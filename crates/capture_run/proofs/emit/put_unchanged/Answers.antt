@@ -1,7 +1,7 @@
 use Rattle.std.proofs.Common.{◌≡◌, [], ap, length, subst, sym}
 use Rattle.std.specs.Prelude.{IfErr, OnOk}
 use Rattle.capture_run.specs.Emitted.{wire_after}
-use Rattle.capture_run.specs.Slots.{Breaks, Puts}
+use Rattle.capture_items.specs.Slots.{Breaks, Puts}
 use Rattle.capture_items.specs.Streams.{spelled_with}
 use Rattle.capture_run.proofs.Emitting.{unchanged}
 use Rattle.capture_run.proofs.emit.put_unchanged.Goals as goal

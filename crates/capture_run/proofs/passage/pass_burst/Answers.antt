@@ -5,9 +5,9 @@ use Rattle.std.proofs.lemmas.List.Sums.{count_by-le-length}
 use Rattle.capture_report.specs.BurstWalkProofs.{all_ended, records_of}
 use Rattle.capture_run.specs.Passing.{packets_next}
 use Rattle.capture_report.specs.Report.{is_gone}
-use Rattle.capture_run.specs.Slots.{Puts, Breaks}
-use Rattle.capture_run.specs.declared.fault.RunFault.TheVariants.{OutOfMemory}
-use Rattle.capture_run.specs.Putting.{no_memory}
+use Rattle.capture_items.specs.Slots.{Puts, Breaks}
+use Rattle.capture_items.specs.declared.fault.RunFault.TheVariants.{OutOfMemory}
+use Rattle.capture_items.specs.Putting.{no_memory}
 use Rattle.capture_run.proofs.BurstLines.{advances_held, breaks_records, ended_many, lines_held, made_lines, puts_records}
 use Rattle.capture_run.proofs.Following.{each_fits}
 use Rattle.capture_run.proofs.Passing.{burst_put, lines_refused}

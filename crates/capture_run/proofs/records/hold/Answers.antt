@@ -4,10 +4,10 @@ use Rattle.std.proofs.lemmas.Bool.{false≢true}
 use Rattle.classifier.specs.Classes.{class_of}
 use Rattle.classifier.specs.Cutting.{closes}
 use Rattle.capture_run.specs.Passing.{IsTold, PassBreaks, Passes, TakeBreaks, Takes}
-use Rattle.capture_run.specs.Putting.{no_memory}
+use Rattle.capture_items.specs.Putting.{no_memory}
 use Rattle.capture_run.specs.Streams.{held_in}
 use Rattle.capture_items.specs.declared.given.Given.TheVariants.{Packet}
-use Rattle.capture_run.specs.declared.fault.RunFault.TheVariants.{OutOfMemory}
+use Rattle.capture_items.specs.declared.fault.RunFault.TheVariants.{OutOfMemory}
 use Rattle.capture_run.proofs.Gathering.{if_err}
 use Rattle.capture_run.proofs.HandingOn.{handed_on}
 use Rattle.capture_run.proofs.Turns.{more_classed, takes_broken, takes_closed, takes_open}

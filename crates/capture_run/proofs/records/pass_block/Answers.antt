@@ -1,5 +1,5 @@
-use Rattle.capture_run.specs.Putting.{no_memory}
-use Rattle.capture_run.specs.declared.fault.RunFault.TheVariants.{OutOfMemory}
+use Rattle.capture_items.specs.Putting.{no_memory}
+use Rattle.capture_items.specs.declared.fault.RunFault.TheVariants.{OutOfMemory}
 use Rattle.capture_run.proofs.HandingOn.{handed_on}
 use Rattle.capture_run.proofs.Turns.{before_block, block_broken, takes_block}
 use Rattle.capture_run.proofs.records.pass_block.Goals as goal

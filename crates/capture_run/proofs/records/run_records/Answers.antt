@@ -1,8 +1,8 @@
 use Rattle.std.proofs.Common.{ap, Err}
 use Rattle.std.proofs.lemmas.Result.{IfOk-weaker, IfErr-weaker}
 use Rattle.nfp_outside.specs.declared.slot.Slot.TheVariants.{Capture}
-use Rattle.capture_run.specs.declared.fault.RunFault.TheVariants.{OutOfMemory}
-use Rattle.capture_run.specs.Putting.{capture_is_not_out, capture_is_not_report}
+use Rattle.capture_items.specs.declared.fault.RunFault.TheVariants.{OutOfMemory}
+use Rattle.capture_items.specs.Putting.{capture_is_not_out, capture_is_not_report}
 use Rattle.capture_run.proofs.Draining.{drained_at_end, drained_at_stop}
 use Rattle.capture_run.proofs.HandingOn.{handed_on}
 use Rattle.capture_run.proofs.Running.{no_run}

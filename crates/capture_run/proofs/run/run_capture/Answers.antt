@@ -1,8 +1,8 @@
 use Rattle.std.proofs.Common.{[], subst}
 use Rattle.nfp_outside.specs.declared.slot.Slot.TheVariants.{Capture}
 use Rattle.capture_run.specs.Running.{RunBreaks, RunsAll}
-use Rattle.capture_run.specs.Slots.{Breaks, Puts}
-use Rattle.capture_run.specs.Putting.{capture_is_not_report}
+use Rattle.capture_items.specs.Slots.{Breaks, Puts}
+use Rattle.capture_items.specs.Putting.{capture_is_not_report}
 use Rattle.capture_report.specs.Telling.{told_text}
 use Rattle.capture_run.proofs.Capturing.{breaks_at_records, breaks_at_summary, breaks_at_title, ended_so, started, writes_all}
 use Rattle.capture_run.proofs.Draining.{still_drained}

@@ -1,9 +1,9 @@
 use Rattle.std.proofs.Common.{◌≡◌, ◌∙◌, [], ◌++◌, append_assoc, subst}
 use Rattle.capture_report.specs.Report.{last_line}
 use Rattle.capture_report.specs.Telling.{told_text}
-use Rattle.capture_run.specs.Slots.{Breaks, Puts}
-use Rattle.capture_run.specs.declared.fault.RunFault.TheVariants.{OutOfMemory}
-use Rattle.capture_run.specs.Putting.{no_memory}
+use Rattle.capture_items.specs.Slots.{Breaks, Puts}
+use Rattle.capture_items.specs.declared.fault.RunFault.TheVariants.{OutOfMemory}
+use Rattle.capture_items.specs.Putting.{no_memory}
 use Rattle.capture_run.proofs.Gathering.{breaks_within, gather_breaks, gathered_put, gathers_more, gathers_pushed, if_err, listed, on_ok, told_parts}
 use Rattle.capture_run.proofs.HandingOn.{handed_on}
 use Rattle.capture_run.proofs.summary.put_summary.Goals as goal

@@ -2,7 +2,7 @@ use Rattle.std.proofs.Common.{◌<◌, [], ◌++◌, length, subst, arith}
 use Rattle.piece_walk.specs.Pieces.{functions_in}
 use Rattle.capture_report.specs.SegmentRun.{pieces_of}
 use Rattle.capture_report.specs.Report.{function_lines}
-use Rattle.capture_run.specs.Slots.{Breaks, Gathers}
+use Rattle.capture_items.specs.Slots.{Breaks, Gathers}
 use Rattle.capture_run.proofs.Gathering.{chain_told, telling_begins, telling_breaks, telling_ends, telling_goes_on}
 use Rattle.capture_run.proofs.HandingOn.{handed_on}
 use Rattle.capture_run.proofs.summary.tell_chain.Goals as goal

@@ -3,7 +3,7 @@ use Rattle.piece_walk.specs.Pieces.{functions_in}
 use Rattle.capture_report.specs.SegmentRun.{pieces_of}
 use Rattle.capture_report.specs.ChainServiceProofs.{pieces_in}
 use Rattle.capture_report.specs.Report.{chain_lines}
-use Rattle.capture_run.specs.Slots.{Breaks, Gathers}
+use Rattle.capture_items.specs.Slots.{Breaks, Gathers}
 use Rattle.capture_run.proofs.Gathering.{telling_begins, telling_breaks, telling_goes_on}
 use Rattle.capture_run.proofs.HandingOn.{handed_on}
 use Rattle.capture_run.proofs.summary.tell_functions.Goals as goal

@@ -1,5 +1,5 @@
-use Rattle.capture_run.specs.declared.fault.RunFault.TheVariants.{OutOfMemory}
-use Rattle.capture_run.specs.Putting.{no_memory}
+use Rattle.capture_items.specs.declared.fault.RunFault.TheVariants.{OutOfMemory}
+use Rattle.capture_items.specs.Putting.{no_memory}
 use Rattle.capture_run.proofs.HandingOn.{handed_on}
 use Rattle.capture_run.proofs.summary.tell_row.Goals as goal
 

@@ -1,7 +1,7 @@
 use Rattle.std.proofs.Common.{◌<◌, [], ◌++◌, length, refl, subst, arith}
 use Rattle.std.specs.Prelude.{slice_index_or}
 use Rattle.capture_report.specs.ChainServiceProofs.{named_rows}
-use Rattle.capture_run.specs.Slots.{Breaks}
+use Rattle.capture_items.specs.Slots.{Breaks}
 use Rattle.capture_run.proofs.Gathering.{telling_begins, telling_breaks, telling_goes_on}
 use Rattle.capture_run.proofs.HandingOn.{handed_on}
 use Rattle.capture_run.proofs.summary.tell_rows.Goals as goal

@@ -5,7 +5,7 @@ use Rattle.piece_walk.specs.Pieces.{functions_in}
 use Rattle.capture_report.specs.SegmentRun.{pieces_of}
 use Rattle.capture_report.specs.ChainService.{named_lines}
 use Rattle.capture_report.specs.Report.{state_text}
-use Rattle.capture_run.specs.Slots.{Breaks, Gathers}
+use Rattle.capture_items.specs.Slots.{Breaks, Gathers}
 use Rattle.capture_run.proofs.Gathering.{gathers_none, state_found}
 use Rattle.capture_run.proofs.summary.tell_state.Goals as goal
 

@@ -1,7 +1,7 @@
 use Rattle.std.proofs.Common.{[], subst, sym}
 use Rattle.pcap_io.specs.Written.{head_bytes}
-use Rattle.capture_run.specs.Slots.{Breaks, Puts}
-use Rattle.capture_run.specs.Putting.{out_refused, puts_out}
+use Rattle.capture_items.specs.Slots.{Breaks, Puts}
+use Rattle.capture_items.specs.Putting.{out_refused, puts_out}
 use Rattle.nfp_run.proofs.attach.put_head.Goals as goal
 
 pub returns-in-Ok-clause-ok : goal.returns-in-Ok-clause-ok

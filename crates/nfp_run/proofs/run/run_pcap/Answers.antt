@@ -6,7 +6,7 @@ use Rattle.pcap_io.specs.Reader.{body_left}
 use Rattle.capture_run.specs.ChainServiceProofs.{chains_of}
 use Rattle.capture_items.specs.Formats.{pcap_left, pcap_spelled}
 use Rattle.capture_run.specs.Running.{WriteBreaks, WritesAll}
-use Rattle.capture_run.specs.declared.fault.RunFault.{RunFault}
+use Rattle.capture_items.specs.declared.fault.RunFault.{RunFault}
 use Rattle.nfp_run.proofs.Formats.{at_head, pcap_partly, pcap_whole}
 use Rattle.nfp_run.proofs.OtherSlots.{capture_is_not_out}
 use Rattle.nfp_run.proofs.run.run_pcap.Goals as goal

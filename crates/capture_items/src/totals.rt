@@ -1,14 +1,20 @@
-//! Lines that occur both in the report and in the message at the end of a run.
+//! The totals of a capture, and their line.
 ghost use Rattle.std.specs.Prelude.{◌≡◌, ◌≤◌, IfOk};
-ghost use Rattle.capture_report.specs.Report.{total_line};
+ghost use Rattle.capture_items.specs.Totals.{total_line};
 
-use crate::ended::Totals;
 use std::alloc::{AllocError, Global};
 use text_lines::Piece::{Number, Text};
 use text_lines::join;
 
+/// The number of records that were read, and of their packets that were dropped.
+#[derive(Clone, Copy, Debug, PartialEq, Eq)]
+pub struct Totals {
+    pub records: u64,
+    pub dropped: u64,
+}
+
 /// `records N emitted E dropped D`
-#[tactic(auto, unfolding(crate::specs::Report::total_line))]
+#[tactic(auto, unfolding(crate::specs::Totals::total_line))]
 pub fn totals_line(alloc: Global, totals: Totals) -> Result<Vec<u8>, AllocError>
     requires { totals.dropped ≤ totals.records }
     ensures { IfOk result (λ v. v.items ≡ total_line totals.records totals.dropped) }

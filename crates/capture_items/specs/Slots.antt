@@ -5,8 +5,8 @@ use Rattle.nfp_outside.specs.declared.slot.Slot.TheVariants.{Policy, Capture, Ou
 use Rattle.nfp_outside.specs.declared.slot.OutsideFault.{OutsideFault}
 use Rattle.nfp_outside.specs.declared.slot.OutsideFault.TheVariants as outside
 use Rattle.nfp_outside.specs.Outside.{SlotView, IsRisen, Appends, AppendsPrefix}
-use Rattle.capture_run.specs.declared.fault.RunFault.{RunFault}
-use Rattle.capture_run.specs.declared.fault.RunFault.TheVariants as faults
+use Rattle.capture_items.specs.declared.fault.RunFault.{RunFault}
+use Rattle.capture_items.specs.declared.fault.RunFault.TheVariants as faults
 
 -- No count fell for the slots that a run of a capture touches.
 pub record IsLater (old new : Slot → SlotView) : Type 0 where

@@ -1,8 +1,8 @@
 use Rattle.std.proofs.Common.{[], subst, sym}
-use Rattle.capture_run.specs.Slots.{Breaks}
+use Rattle.capture_items.specs.Slots.{Breaks}
 use Rattle.capture_items.specs.declared.given.Given.TheVariants.{Block}
-use Rattle.capture_run.specs.Putting.{puts_out, out_refused}
-use Rattle.capture_run.proofs.write.put_block.Goals as goal
+use Rattle.capture_items.specs.Putting.{puts_out, out_refused}
+use Rattle.capture_items.proofs.write.put_block.Goals as goal
 
 pub returns-in-Ok-clause-ok : goal.returns-in-Ok-clause-ok
 returns-in-Ok-clause-ok g c = puts_out (g.W.Sink.spelled c.args.writer.now (Block c.args.block.now)) (g.D.Desk.slots c.args.desk.now) (g.D.Desk.slots c.put_block.new.desk) c.in-Ok.ensures.ok c.put_block.ensures.cause.later c.put_block.ensures.others

@@ -1,13 +1,13 @@
 //! Puts packets, blocks and texts into Out and Report, and returns the fault if that fails.
 ghost use Rattle.std.specs.Prelude.{◌≡◌, ◌≢◌, ◌<◌, ◌^◌, [], IfErr, OnOk, IsSome, length};
 ghost use Rattle.nfp_outside.specs.declared.slot.Slot.{Slot};
-ghost use Rattle.capture_run.specs.Slots.{Puts, Breaks, fault_seen};
+ghost use Rattle.capture_items.specs.Slots.{Puts, Breaks, fault_seen};
 ghost use Rattle.capture_items.specs.Streams.{spelled_with};
 ghost use Rattle.capture_items.specs.declared.given.Given.TheVariants.{Block};
 
 use crate::fault::RunFault;
+use crate::sink::Sink;
 use capture_bytes::PcapRecord;
-use capture_items::Sink;
 use nfp_outside::{Desk, OutsideFault, Slot, write_whole};
 
 /// Puts a packet into Out, with what belongs to its record.

@@ -7,9 +7,9 @@ use Rattle.nfp_outside.specs.declared.slot.OutsideFault.{OutsideFault}
 use Rattle.nfp_outside.specs.declared.slot.OutsideFault.TheVariants as outside
 use Rattle.nfp_outside.specs.Outside.{SlotView, IsRisen, Appends, AppendsPrefix, WriteCause}
 use Rattle.nfp_outside.specs.Adding.{appends_none, appends_more, prefix_longer, prefix_more, prefix_none, prefix_whole}
-use Rattle.capture_run.specs.Slots.{IsLater, Puts, IsBroken, Breaks, fault_seen}
-use Rattle.capture_run.specs.declared.fault.RunFault.{RunFault}
-use Rattle.capture_run.specs.declared.fault.RunFault.TheVariants as faults
+use Rattle.capture_items.specs.Slots.{IsLater, Puts, IsBroken, Breaks, fault_seen}
+use Rattle.capture_items.specs.declared.fault.RunFault.{RunFault}
+use Rattle.capture_items.specs.declared.fault.RunFault.TheVariants as faults
 
 -- a count that rose in the later of two calls rose in both
 pub risen_earlier : (a b c : ℕ) → a ≤ b → IsRisen b c → IsRisen a c

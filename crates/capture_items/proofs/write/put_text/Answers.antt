@@ -1,7 +1,7 @@
 use Rattle.std.proofs.Common.{[], inr, subst, sym}
-use Rattle.capture_run.specs.Slots.{Breaks}
-use Rattle.capture_run.specs.Putting.{puts_report, report_refused}
-use Rattle.capture_run.proofs.write.put_text.Goals as goal
+use Rattle.capture_items.specs.Slots.{Breaks}
+use Rattle.capture_items.specs.Putting.{puts_report, report_refused}
+use Rattle.capture_items.proofs.write.put_text.Goals as goal
 
 pub write_whole-requires-clause-attached : goal.write_whole-requires-clause-attached
 write_whole-requires-clause-attached g c = inr c.requires
