@@ -119,10 +119,10 @@ after_on_threads packets nanos pace =
     if have_failed pace.alone.each packets nanos then left packets nanos pace else after packets nanos pace
 
 -- one more burst, of this number of packets, ran on threads or on one thread
-abbrev pub told_threads : ℕ → ℕ → Pace → Pace
-told_threads packets nanos pace =
+abbrev pub after_burst_on_threads : ℕ → ℕ → Pace → Pace
+after_burst_on_threads packets nanos pace =
     after_on_threads (packets_sum pace.packets packets) (nanos_sum pace.nanos nanos) (record pace { threads = timed packets nanos pace.threads })
 
-abbrev pub told_alone : ℕ → ℕ → Pace → Pace
-told_alone packets nanos pace =
+abbrev pub after_burst_alone : ℕ → ℕ → Pace → Pace
+after_burst_alone packets nanos pace =
     after (packets_sum pace.packets packets) (nanos_sum pace.nanos nanos) (record pace { alone = timed packets nanos pace.alone })

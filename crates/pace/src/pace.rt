@@ -63,7 +63,7 @@ pub struct Pace {
 }
 
 ghost use Rattle.std.specs.Prelude.{◌≡◌, ◌<◌, ◌/◌, Some, None};
-ghost use Rattle.pace.specs.Pacing.{after, after_on_threads, are_hopeless, are_light, better, have_failed, is_light, is_over, lead_of, left, most, next_part, pays, size, told_alone, told_threads};
+ghost use Rattle.pace.specs.Pacing.{after, after_burst_alone, after_burst_on_threads, after_on_threads, are_hopeless, are_light, better, have_failed, is_light, is_over, lead_of, left, most, next_part, pays, size};
 ghost use Rattle.pace.specs.declared.pace.Lead.{Lead};
 ghost use Rattle.pace.specs.declared.pace.Part.{Part};
 
@@ -113,11 +113,11 @@ impl Pace {
         }
     }
 
-    /// Takes note of a burst of `packets` packets, at least one, which ran in this way and took `nanos` nanoseconds.
-    pub fn tell(&mut self, lead: Lead, packets: u32, nanos: u64)
+    /// Remembers a burst of `packets` packets, at least one, which ran in this way and took `nanos` nanoseconds.
+    pub fn note_burst(&mut self, lead: Lead, packets: u32, nanos: u64)
         requires some { 0 < packets }
-        ensures threads { lead ≡ Lead.Threads → self.new ≡ told_threads packets nanos self.old }
-        ensures alone { lead ≡ Lead.Alone → self.new ≡ told_alone packets nanos self.old }
+        ensures threads { lead ≡ Lead.Threads → self.new ≡ after_burst_on_threads packets nanos self.old }
+        ensures alone { lead ≡ Lead.Alone → self.new ≡ after_burst_alone packets nanos self.old }
     {
         let part_packets = self.packets.saturating_add(packets);
         let part_nanos = self.nanos.saturating_add(nanos);

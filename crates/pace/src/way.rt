@@ -1,6 +1,7 @@
 //! The time of a packet in one way.
 
-/// The number of packets of a sample: the time of fewer may be far from what is usual, since one burst of a few packets may be lucky.
+/// The number of packets of a sample. The time of fewer may be far from what is usual, since one burst of a few packets
+/// may be lucky.
 const SAMPLE: u32 = 1_024;
 
 /// The time of a packet in one way, as measured on samples of at least 1,024 packets.

@@ -8,7 +8,7 @@ use Rattle.graph_compile.specs.declared.graph.Stage.{Stage}
 use Rattle.burst_law.specs.Bursts.{Message}
 use Rattle.node_run.specs.Runs.{flat}
 use Rattle.stream_law.specs.Owned.{PlainOwned}
-use Rattle.settled_notes.specs.Settling.{TellDrops}
+use Rattle.settled_notes.specs.Settling.{SameDrops}
 use Rattle.piped_run.specs.Settling.{settled_own}
 
 -- the functions of this number of works are with their branches
@@ -62,10 +62,10 @@ pub record IsGiven {F W V : Type 0} (settled : W → List F) (items : V → List
 
 abbrev pub HasGiven : {F N V : Type 0} → Notes F N → List Fate → (V → List (List F)) → List Stage → List (PlainOwned F N) → List (PlainOwned F N) → List V → ℕ → Type 0
 HasGiven {F} {N} notes fates items stages works rest owned i =
-    (ends : List Message) (left : List (List (PlainOwned F N))) → TellDrops fates ends → map (λ l. length l) left ≡ map (λ s. length s.branches) stages → works ≡ flat left → IsGiven (settled_own notes ends) items left rest owned i
+    (ends : List Message) (left : List (List (PlainOwned F N))) → SameDrops fates ends → map (λ l. length l) left ≡ map (λ s. length s.branches) stages → works ≡ flat left → IsGiven (settled_own notes ends) items left rest owned i
 
 pub given_none : {F N V : Type 0} (notes : Notes F N) (fates : List Fate) (items : V → List (List F)) (stages : List Stage) (works rest : List (PlainOwned F N)) (owned : List V) → owned ≡ [] → rest ≡ works → HasGiven notes fates items stages works rest owned 0
-given_none notes fates items stages works rest owned none all ends left tells many is = record { given = ap (map items) none; left = all ∙ is }
+given_none notes fates items stages works rest owned none all ends left same_drops many is = record { given = ap (map items) none; left = all ∙ is }
 
 get_map : {A B : Type 0} (f : A → B) (xs : List A) (i : ℕ) (d : A) (e : B) → i < length xs → get_or (map f xs) i e ≡ f (get_or xs i d)
 get_map f [] i d e inside = absurd (omega arith)
@@ -78,9 +78,9 @@ flat_cut e ends = refl
 
 pub given_more : {F N V : Type 0} (notes : Notes F N) (fates : List Fate) (items : V → List (List F)) (stages : List Stage) (works was rest : List (PlainOwned F N)) (old new : List V) (v : V) (i count : ℕ) (d : Stage) →
     HasGiven notes fates items stages works was old i → i < length stages → count ≡ length (get_or stages i d).branches →
-    ((ends : List Message) → TellDrops fates ends → items v ≡ map (settled_own notes ends) (take count was)) → rest ≡ drop count was → new ≡ old ++ v ∷ [] → HasGiven notes fates items stages works rest new (i + 1)
-given_more {F} {N} {V} notes fates items stages works was rest old new v i count d has inside counts own left push ends all tells many is =
-    let so_far = has ends all tells many is in
+    ((ends : List Message) → SameDrops fates ends → items v ≡ map (settled_own notes ends) (take count was)) → rest ≡ drop count was → new ≡ old ++ v ∷ [] → HasGiven notes fates items stages works rest new (i + 1)
+given_more {F} {N} {V} notes fates items stages works was rest old new v i count d has inside counts own left push ends all same_drops many is =
+    let so_far = has ends all same_drops many is in
     let same : length all ≡ length stages = sym (length-map all (λ l. length l)) ∙ ap length many ∙ length-map stages (λ s. length s.branches) in
     let here : i < length all = omega arith in
     let e : List (PlainOwned F N) = get_or all i [] in
@@ -91,14 +91,14 @@ given_more {F} {N} {V} notes fates items stages works was rest old new v i count
     let dropped : drop count was ≡ flat (drop (i + 1) all) = (λ k. drop (size k) (cut k)) ∙ drop-append_seam e (flat (drop (i + 1) all)) in
     record {
       given = ap (map items) push ∙ map-append items old (v ∷ [])
-          ∙ (λ k. so_far.given k ++ (own ends tells ∙ ap (map (settled_own notes ends)) taken) k ∷ [])
+          ∙ (λ k. so_far.given k ++ (own ends same_drops ∙ ap (map (settled_own notes ends)) taken) k ∷ [])
           ∙ sym (map-append (λ l. map (settled_own notes ends) l) (take i all) (e ∷ []))
           ∙ ap (map (λ l. map (settled_own notes ends) l)) (sym (take_more all i [] here));
       left = left ∙ dropped;
     }
 
 pub given_all : {F N V : Type 0} (notes : Notes F N) (fates : List Fate) (items : V → List (List F)) (stages : List Stage) (works rest : List (PlainOwned F N)) (owned : List V) (i : ℕ) → HasGiven notes fates items stages works rest owned i → length stages ≤ i →
-    (ends : List Message) (left : List (List (PlainOwned F N))) → TellDrops fates ends → map (λ l. length l) left ≡ map (λ s. length s.branches) stages → works ≡ flat left → map items owned ≡ map (λ l. map (settled_own notes ends) l) left
-given_all notes fates items stages works rest owned i has past ends left tells many is =
+    (ends : List Message) (left : List (List (PlainOwned F N))) → SameDrops fates ends → map (λ l. length l) left ≡ map (λ s. length s.branches) stages → works ≡ flat left → map items owned ≡ map (λ l. map (settled_own notes ends) l) left
+given_all notes fates items stages works rest owned i has past ends left same_drops many is =
     let same : length left ≡ length stages = sym (length-map left (λ l. length l)) ∙ ap length many ∙ length-map stages (λ s. length s.branches) in
-    (has ends left tells many is).given ∙ ap (map (λ l. map (settled_own notes ends) l)) (take_all i left (omega arith))
+    (has ends left same_drops many is).given ∙ ap (map (λ l. map (settled_own notes ends) l)) (take_all i left (omega arith))

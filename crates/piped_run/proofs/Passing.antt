@@ -31,7 +31,7 @@ use Rattle.node_run.specs.Runs.{fates_behind, flat}
 use Rattle.stream_law.specs.Owned.{PlainOwned, owned_kit}
 use Rattle.stream_law.specs.Works.{works_of}
 use Rattle.piped_run.specs.Frames.{EndsAs}
-use Rattle.settled_notes.specs.Settling.{TellDrops}
+use Rattle.settled_notes.specs.Settling.{SameDrops}
 use Rattle.piped_run.specs.Settling.{settled_own}
 use Rattle.piped_run.proofs.Settled.{AreNoteLaws, EndsAlike, LeftWith, drops_told, settled_back}
 
@@ -148,15 +148,15 @@ as_many_end : {F : Type 0} (b : Behaviour F) (functions : List F) (packets : Lis
 as_many_end b functions packets fates ended = ap length (sym ended.packets_are) ∙ length-map ended.behind as_message ∙ ended.rests.count ∙ sym (length-map packets as_message)
 
 -- and their fates show where they were dropped
-ends_told : {F : Type 0} (b : Behaviour F) (functions : List F) (packets : List Merged) (fates : List Fate) → EndsAs b functions packets fates → TellDrops fates (chain_burst b functions (map as_message packets)).gives
-ends_told b functions packets fates ended = subst (λ l. TellDrops l (chain_burst b functions (map as_message packets)).gives) (sym ended.fated) (subst (TellDrops (map fate_behind ended.behind)) ended.packets_are (drops_told ended.behind))
+ends_told : {F : Type 0} (b : Behaviour F) (functions : List F) (packets : List Merged) (fates : List Fate) → EndsAs b functions packets fates → SameDrops fates (chain_burst b functions (map as_message packets)).gives
+ends_told b functions packets fates ended = subst (λ l. SameDrops l (chain_burst b functions (map as_message packets)).gives) (sym ended.fated) (subst (SameDrops (map fate_behind ended.behind)) ended.packets_are (drops_told ended.behind))
 
 -- the functions after the last stage, by stage and branch again, after all notes are settled
 pub gone_back : {F N V : Type 0} (items : V → List (List F)) (b : Behaviour F) (notes : Notes F N) (graph : Graph) (stages : List Stage) (functions : List F) (packets : List Merged) (works was : List (PlainStage (PlainOwned F N))) (done : List (PlainOwned F N)) (fates shown : List Fate) (owned : List V) →
     AreNoteLaws F N → KeepsProfile b → KeepsProfile (quiet b) → IsQuiet (quiet b) → CountsByNotes b notes → IsRunning b functions graph → stages ≡ graph.stages → works ≡ was → EndsAs b functions packets fates →
     LeftWith b notes graph functions (map as_message packets) (ends_of (owned_kit (quiet b) notes) was (map of_merged packets)) →
     done ≡ flat (ends_of (owned_kit (quiet b) notes) works (map of_merged packets)) →
-    shown ≡ fates → ((ends : List Message) (left : List (List (PlainOwned F N))) → TellDrops shown ends → map (λ l. length l) left ≡ map (λ s. length s.branches) stages → done ≡ flat left → map items owned ≡ map (λ l. map (settled_own notes ends) l) left) →
+    shown ≡ fates → ((ends : List Message) (left : List (List (PlainOwned F N))) → SameDrops shown ends → map (λ l. length l) left ≡ map (λ s. length s.branches) stages → done ≡ flat left → map items owned ≡ map (λ l. map (settled_own notes ends) l) left) →
     map items owned ≡ owned_by stages (left_by b functions packets)
 gone_back {F} {N} {V} items b notes graph stages functions packets works was done fates shown owned laws keeps quietly calm counts running are is ended left ran same back =
     let kit : Kit (PlainOwned F N) = owned_kit (quiet b) notes in
@@ -165,7 +165,7 @@ gone_back {F} {N} {V} items b notes graph stages functions packets works was don
     let fit : map (λ l. length l) at_end ≡ map (λ s. length s.branches) stages =
     ends_fit graph.stages at_end (chain_burst (quiet b) functions ms).state left.functions_are ∙ ap (map (λ s. length s.branches)) (sym are) in
     let done_is : done ≡ flat at_end = ran ∙ ap (λ (l : List (PlainStage (PlainOwned F N))). flat (ends_of kit l (map of_merged packets))) is in
-    back (chain_burst b functions ms).gives at_end (subst (λ l. TellDrops l (chain_burst b functions ms).gives) (sym same) (ends_told b functions packets fates ended)) fit done_is
+    back (chain_burst b functions ms).gives at_end (subst (λ l. SameDrops l (chain_burst b functions ms).gives) (sym same) (ends_told b functions packets fates ended)) fit done_is
     ∙ settled_back b notes graph functions ms at_end laws keeps quietly calm counts running.lawful running.full (as_many_end b functions packets fates ended) left
     ∙ ap (λ (l : List Stage). owned_by l (left_by b functions packets)) (sym are)
 

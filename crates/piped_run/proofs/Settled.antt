@@ -20,7 +20,7 @@ use Rattle.burst_law.specs.Stations.{Turn, along, beside}
 use Rattle.stream_law.specs.Listed.{stage_listed, graph_listed}
 use Rattle.stream_law.specs.Messages.{as_message}
 use Rattle.stream_law.specs.Owned.{PlainOwned}
-use Rattle.settled_notes.specs.Settling.{TellDrops, dropped_before}
+use Rattle.settled_notes.specs.Settling.{SameDrops, dropped_before}
 use Rattle.piped_run.specs.Settling.{settled_own}
 
 -- the fates of packets show where they were dropped
@@ -29,7 +29,7 @@ dropped_same (Whole whole) q = refl
 dropped_same (Gone p) q = refl
 dropped_same Short q = refl
 
-pub drops_told : (behind : List Merged) → TellDrops (map fate_behind behind) (map as_message behind)
+pub drops_told : (behind : List Merged) → SameDrops (map fate_behind behind) (map as_message behind)
 drops_told [] zero q = refl
 drops_told [] (suc k) q = refl
 drops_told (m ∷ behind) zero q = dropped_same m q

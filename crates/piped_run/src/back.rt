@@ -3,7 +3,7 @@ ghost use Rattle.std.specs.Prelude.{◌≡◌, List, length, map, take, drop, If
 ghost use Rattle.burst_law.specs.Bursts.{Message};
 ghost use Rattle.packet_function.specs.declared.note.FlowNote.{FlowNote};
 ghost use Rattle.piped_run.specs.Settling.{settled_own};
-ghost use Rattle.settled_notes.specs.Settling.{TellDrops};
+ghost use Rattle.settled_notes.specs.Settling.{SameDrops};
 ghost use Rattle.std.specs.Vec.Iter.{into_iter_items};
 ghost use Rattle.node_run.specs.Runs.{flat};
 ghost use Rattle.stream_law.specs.Owned.{PlainOwned};
@@ -24,7 +24,7 @@ pub(crate) fn end_works<F: Function + Drop>(
     works: Vec<OwnedFunctions<F>>,
     fates: &[Fate],
 ) -> Result<Vec<Vec<Vec<F>>>, AllocError>
-    ensures { (ends : List Message) (left : List (List (PlainOwned F FlowNote))) → TellDrops fates.now ends → map (λ l. length l) left ≡ map (λ s. length s.branches) stages.now → works.items ≡ flat left →
+    ensures { (ends : List Message) (left : List (List (PlainOwned F FlowNote))) → SameDrops fates.now ends → map (λ l. length l) left ≡ map (λ s. length s.branches) stages.now → works.items ≡ flat left →
         IfOk result (λ owned. map (λ own. map (λ v. v.items) own.items) owned.items ≡ map (λ l. map (settled_own F.notes ends) l) left) }
 {
     let mut owned = Vec::with_capacity(alloc, stages.len())?;
@@ -43,7 +43,7 @@ fn end_branches<F: Function + Drop>(
     works: &mut IntoIter<OwnedFunctions<F>>,
     fates: &[Fate],
 ) -> Result<Vec<Vec<F>>, AllocError>
-    ensures own { (ends : List Message) → TellDrops fates.now ends → IfOk result (λ own. map (λ v. v.items) own.items ≡ map (settled_own F.notes ends) (take count (into_iter_items works.old))) }
+    ensures own { (ends : List Message) → SameDrops fates.now ends → IfOk result (λ own. map (λ v. v.items) own.items ≡ map (settled_own F.notes ends) (take count (into_iter_items works.old))) }
     ensures left { OnOk result (into_iter_items works.new ≡ drop count (into_iter_items works.old)) }
 {
     let mut own = Vec::with_capacity(alloc, count)?;

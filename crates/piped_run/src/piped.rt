@@ -151,7 +151,7 @@ fn run_piece<F: Function + Drop + Send, G: Gate + Sync, R: Threads + Wait + Cloc
     let (run, fates) = run_by(
         rt, alloc, run, items, unit, chain, tally, mergers, gate, way, lead,
     )?;
-    tell(rt, &mut pace, lead, fates.len(), start);
+    note_burst(rt, &mut pace, lead, fates.len(), start);
     Ok((run.paced(pace), fates))
 }
 
@@ -194,7 +194,13 @@ fn run_by<F: Function + Drop + Send, G: Gate + Sync, R: Threads + Wait + Sync>(
 }
 
 /// Reports to the pace the time of `packets` packets in this way, if the clock works.
-fn tell<R: Clock>(rt: &R, pace: &mut Pace, lead: Lead, packets: usize, start: Option<Instant>) {
+fn note_burst<R: Clock>(
+    rt: &R,
+    pace: &mut Pace,
+    lead: Lead,
+    packets: usize,
+    start: Option<Instant>,
+) {
     let (Some(start), Ok(packets)) = (start, u32::try_from(packets)) else {
         return;
     };
@@ -203,7 +209,7 @@ fn tell<R: Clock>(rt: &R, pace: &mut Pace, lead: Lead, packets: usize, start: Op
     };
     if packets > 0 {
         let nanos = u64::try_from(took.as_nanos()).unwrap_or(u64::MAX);
-        pace.tell(lead, packets, nanos);
+        pace.note_burst(lead, packets, nanos);
     }
 }
 

@@ -2,7 +2,7 @@
 ghost use Rattle.std.specs.Prelude.{◌≡◌, List, IfOk};
 ghost use Rattle.burst_law.specs.Bursts.{Message};
 ghost use Rattle.piped_run.specs.Settling.{settled_own};
-ghost use Rattle.settled_notes.specs.Settling.{TellDrops};
+ghost use Rattle.settled_notes.specs.Settling.{SameDrops};
 
 use crate::owned::OwnedFunctions;
 use chain_walk::Fate;
@@ -16,7 +16,7 @@ pub(crate) fn settle_work<F: Function + Drop>(
     work: OwnedFunctions<F>,
     fates: &[Fate],
 ) -> Result<Vec<F>, AllocError>
-    ensures { (ends : List Message) → TellDrops fates.now ends → IfOk result (λ functions. functions.items ≡ settled_own F.notes ends work) }
+    ensures { (ends : List Message) → SameDrops fates.now ends → IfOk result (λ functions. functions.items ≡ settled_own F.notes ends work) }
 {
     let OwnedFunctions {
         mut functions,

@@ -12,8 +12,8 @@ dropped_before (Out frame) q = false
 dropped_before (Gone p) q = nat_lt p q
 
 -- these fates and these ends show the same drops: before which positions each packet was dropped
-abbrev pub TellDrops : List Fate → List Message → Type 0
-TellDrops fates ends = (k q : ℕ) → dropped_before (slice_index_or fates k (Gone 0)) q ≡ lost_before (slice_index_or ends k (Lost 0)) q
+abbrev pub SameDrops : List Fate → List Message → Type 0
+SameDrops fates ends = (k q : ℕ) → dropped_before (slice_index_or fates k (Gone 0)) q ≡ lost_before (slice_index_or ends k (Lost 0)) q
 
 -- the number of lines that show the state of each function
 abbrev pub line_counts : {F : Type 0} → (F → List (List ℕ)) → List F → List ℕ

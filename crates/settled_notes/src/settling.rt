@@ -2,7 +2,7 @@
 ghost use Rattle.std.specs.Prelude.{◌≡◌, List, slice_index_or, IsOk, OnOk};
 ghost use Rattle.burst_law.specs.Bursts.{Message, Message.Lost};
 ghost use Rattle.burst_law.specs.Noting.{lost_before, settled_listed, settled_one};
-ghost use Rattle.settled_notes.specs.Settling.{line_counts, AddsNoLine, TellDrops};
+ghost use Rattle.settled_notes.specs.Settling.{line_counts, AddsNoLine, SameDrops};
 
 use crate::listed::ListedNote;
 use chain_walk::Fate;
@@ -18,9 +18,9 @@ pub fn settle_listed<F: Function>(
     fates: &[Fate],
     listed: &[ListedNote],
 ) -> Result<(), AllocError>
-    ensures settled { (ends : List Message) → TellDrops fates.now ends → OnOk result (functions.new ≡ settled_listed F.notes positions.now ends functions.old listed.now) }
+    ensures settled { (ends : List Message) → SameDrops fates.now ends → OnOk result (functions.new ≡ settled_listed F.notes positions.now ends functions.old listed.now) }
     // Only one line more of a state needs memory.
-    ensures known { (ends : List Message) → TellDrops fates.now ends → AddsNoLine F.rows F.notes positions.now ends functions.old listed.now → IsOk result }
+    ensures known { (ends : List Message) → SameDrops fates.now ends → AddsNoLine F.rows F.notes positions.now ends functions.old listed.now → IsOk result }
 {
     for note in listed {
         settle_one(functions, positions, fates, note)?;
@@ -35,8 +35,8 @@ fn settle_one<F: Function>(
     fates: &[Fate],
     note: &ListedNote,
 ) -> Result<(), AllocError>
-    ensures settled { (ends : List Message) → TellDrops fates.now ends → OnOk result (functions.new ≡ settled_one F.notes positions.now ends functions.old note.now) }
-    ensures known { (ends : List Message) → TellDrops fates.now ends → line_counts F.rows (settled_one F.notes positions.now ends functions.old note.now) ≡ line_counts F.rows functions.old → IsOk result }
+    ensures settled { (ends : List Message) → SameDrops fates.now ends → OnOk result (functions.new ≡ settled_one F.notes positions.now ends functions.old note.now) }
+    ensures known { (ends : List Message) → SameDrops fates.now ends → line_counts F.rows (settled_one F.notes positions.now ends functions.old note.now) ≡ line_counts F.rows functions.old → IsOk result }
 {
     let index = note.index;
     if is_dropped_before(fates, note.packet, position_at(positions, index)) {
@@ -60,7 +60,7 @@ fn position_at(positions: &[u32], index: usize) -> u32
 
 /// Was the packet with this number in the burst dropped before this position?
 fn is_dropped_before(fates: &[Fate], packet: u32, position: u32) -> bool
-    ensures { (ends : List Message) → TellDrops fates.now ends → result ≡ lost_before (slice_index_or ends packet (Lost 0)) position }
+    ensures { (ends : List Message) → SameDrops fates.now ends → result ≡ lost_before (slice_index_or ends packet (Lost 0)) position }
 {
     match fates.get(packet as usize) {
         Some(Fate::Gone(at)) => *at < position,

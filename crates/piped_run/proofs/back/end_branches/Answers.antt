@@ -5,8 +5,8 @@ use Rattle.piped_run.proofs.back.end_branches.Goals as goal
 
 pub branches-preserved : goal.branches-preserved
 branches-preserved g c = (
-  λ ends tells.
-      (one_given (settled_own g.F.Function.notes ends) (λ v. v.items) (into_iter_items c.args.works.now) _ _ c.in-Some.work c.branches.own.items c.push.new.self.items _ c.branches._branch (c.branches.invariant.0 ends tells) c.branches.invariant.1 c.in-Some.ensures.cases.0
-      (c.in_ok-settle_work-in-Some.ensures ends tells) c.in_ok-push-in-Some.ensures.items).given,
+  λ ends same_drops.
+      (one_given (settled_own g.F.Function.notes ends) (λ v. v.items) (into_iter_items c.args.works.now) _ _ c.in-Some.work c.branches.own.items c.push.new.self.items _ c.branches._branch (c.branches.invariant.0 ends same_drops) c.branches.invariant.1 c.in-Some.ensures.cases.0
+      (c.in_ok-settle_work-in-Some.ensures ends same_drops) c.in_ok-push-in-Some.ensures.items).given,
   one_taken (into_iter_items c.args.works.now) _ _ c.in-Some.work c.branches._branch c.branches.invariant.1 c.in-Some.ensures.cases.0,
 )
