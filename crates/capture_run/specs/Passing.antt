@@ -6,7 +6,6 @@ use Rattle.capture_bytes.specs.declared.packet.PcapRecord.{PcapRecord}
 use Rattle.chain_walk.specs.declared.walk.Fate.{Fate}
 use Rattle.service_walk.specs.Service.{Classed}
 use Rattle.classifier.specs.Cutting.{Cutting}
-use Rattle.classifier.specs.declared.burst.Item.{Item}
 use Rattle.capture_report.specs.ChainServiceProofs.{IsOpeningChain, chains_of, fits_of}
 use Rattle.capture_report.specs.ChainService.{Chains}
 use Rattle.capture_report.specs.BurstWalk.{all_classed, chains_behind, fates_of}

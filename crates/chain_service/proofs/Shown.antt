@@ -8,7 +8,6 @@ use Rattle.action_profile.specs.Profiles.{plain, profile_of}
 use Rattle.policy_text.specs.declared.policy.FunctionDecl.{FunctionDecl}
 use Rattle.graph_compile.specs.Cutting.{cut, in_front}
 use Rattle.graph_compile.specs.Stages.{graph_of}
-use Rattle.graph_text.specs.Chains.{profiles_in}
 use Rattle.plan_text.specs.Plan.{is_whole_at}
 use Rattle.net_functions.specs.Builds.{function_of}
 use Rattle.net_functions.specs.declared.making.Made.{Made}

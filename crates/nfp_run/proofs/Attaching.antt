@@ -15,12 +15,13 @@ use Rattle.capture_items.specs.Slots.{IsBroken}
 use Rattle.capture_items.specs.Sources.{IsOpeningFault}
 use Rattle.capture_items.specs.declared.fault.RunFault.{RunFault}
 use Rattle.capture_items.specs.declared.fault.RunFault.TheVariants as faults
-use Rattle.nfp_run.specs.declared.outcome.Outcome.{Outcome}
-use Rattle.nfp_run.specs.declared.outcome.Outcome.TheVariants.{Done, Usage, Policy, Graph, Capture, CaptureNg, ReadFault, WriteFault, OutOfMemory}
+use Rattle.call_ending.specs.declared.outcome.Outcome.{Outcome}
+use Rattle.call_ending.specs.declared.outcome.Outcome.TheVariants.{Done, Usage, Policy, Graph, Capture, CaptureNg, ReadFault, WriteFault, OutOfMemory}
 use Rattle.nfp_run.specs.Answers.{AttachedUnless, BothAttached, FaultAttaches, NoneAttached, RunAttaches}
 use Rattle.nfp_run.specs.Attached.{RunLeavesAttached}
-use Rattle.nfp_run.specs.Closing.{closed, ending_of, outcome_seen}
-use Rattle.nfp_run.specs.Reading.{RefusedOpening}
+use Rattle.nfp_run.specs.Closing.{closed, ending_of}
+use Rattle.call_ending.specs.Endings.{outcome_seen}
+use Rattle.call_ending.specs.Reading.{RefusedOpening}
 
 -- a fault after the head, or after the first block
 behind_head : (fault : CaptureFault) (new : Slot → SlotView) → ¬ IsOpeningFault (formats.Pcap fault) → BothAttached new → FaultAttaches fault new

@@ -7,14 +7,14 @@ use Rattle.nfp_outside.specs.Outside.{SlotView, IsRisen}
 use Rattle.pcap_io.specs.declared.capture.CaptureFault.{CaptureFault}
 use Rattle.pcap_io.specs.declared.capture.CaptureFault.TheVariants.{BadMagic, BadVersion, BadLink, CutHead, CutRecord, FrameTooLong, TooManyRecords}
 use Rattle.pcapng_io.specs.Blocks.{is_of_first_block}
-use Rattle.nfp_run.specs.declared.outcome.Outcome.{Outcome}
-use Rattle.nfp_run.specs.declared.outcome.Outcome.TheVariants.{Done, Usage, Policy, Graph, Capture, CaptureNg, ReadFault, WriteFault, OutOfMemory}
+use Rattle.call_ending.specs.declared.outcome.Outcome.{Outcome}
+use Rattle.call_ending.specs.declared.outcome.Outcome.TheVariants.{Done, Usage, Policy, Graph, Capture, CaptureNg, ReadFault, WriteFault, OutOfMemory}
 use Rattle.graph_text.specs.declared.fault.GraphFault.{GraphFault}
 use Rattle.policy_judge.specs.declared.fault.PolicyFault.{PolicyFault}
-use Rattle.nfp_run.specs.declared.ending.Ending.{Ending}
+use Rattle.call_ending.specs.declared.ending.Ending.{Ending}
 use Rattle.command_words.specs.declared.usage.UsageFault.{UsageFault}
 use Rattle.command_words.specs.Words.{Command, Run, Plan, Demo, Flows}
-use Rattle.nfp_run.specs.Closing.{outcome_seen, untold, Notes}
+use Rattle.call_ending.specs.Endings.{outcome_seen, untold, Notes}
 use Rattle.nfp_run.specs.Due.{due_of_command}
 use Rattle.nfp_run.specs.Answers.{IsDue, WhereRead, HasNames, name_of, BothAttached, NoneAttached, OutAttached, FaultAttaches, FaultAttachesOut, FlowsAttach, AttachedUnless, ReportBehindOut, RunAttaches, AttachesDue, ReachesCapture, ReadsToEnd, PolicyCause, GraphCause, ReadFaultCause, WriteFaultCause}
 use Rattle.nfp_run.proofs.ReadToEnd.{to_end}

@@ -28,18 +28,21 @@ use Rattle.capture_items.specs.Formats.{PacketBeside, ng_left, ng_stream}
 use Rattle.capture_run.specs.Running.{Counts}
 use Rattle.capture_items.specs.Streams.{Stream}
 use Rattle.capture_items.specs.Slots.{IsBroken}
-use Rattle.nfp_run.specs.declared.ending.Ending.{Ending}
-use Rattle.nfp_run.specs.declared.outcome.Outcome.TheVariants.{WriteFault}
+use Rattle.call_ending.specs.declared.ending.Ending.{Ending}
+use Rattle.call_ending.specs.declared.outcome.Outcome.TheVariants.{WriteFault}
 use Rattle.nfp_run.specs.Answers.{HasNoOpeningFault, Holds, HoldsPrefix, IsFinal, IsUntouched, HasTexts, Leaves, LeavesPrefixes, WhereRead, WhereTexts, WriteFaultCause}
-use Rattle.nfp_run.specs.Closing.{EndsDue, Left, closed, ending_of, outcome_seen, text_of}
-use Rattle.nfp_run.specs.Due.{Due, due_by_format, due_of_capture, due_of_command, due_of_led, due_of_ng, due_of_pcap, due_of_run, is_ng, note_of, outcome_of}
+use Rattle.nfp_run.specs.Closing.{EndsDue, Left, closed, ending_of}
+use Rattle.call_ending.specs.Endings.{outcome_seen, text_of}
+use Rattle.nfp_run.specs.Due.{Due, due_by_format, due_of_capture, due_of_command, due_of_led, due_of_ng, due_of_pcap, due_of_run, note_of, outcome_of}
+use Rattle.call_ending.specs.Told.{is_ng}
 use Rattle.nfp_run.specs.Preparing.{Unprepared, chains_prepared, prepared}
-use Rattle.nfp_run.specs.Reading.{IsOfFormat, LeavesAll, Opens, Serves, chains_run, led_stream, opened_led}
+use Rattle.call_ending.specs.Reading.{IsOfFormat, LeavesAll, Opens}
+use Rattle.nfp_run.specs.Reading.{Serves, chains_run, led_stream, opened_led}
 use Rattle.nfp_run.specs.declared.prepared.Prepared.{Prepared}
-use Rattle.nfp_run.specs.Notes.{done_text}
+use Rattle.call_ending.specs.Notes.{done_text}
 use Rattle.nfp_run.specs.Written.{both, Led, led_ng, led_pcap, Written}
-use Rattle.nfp_run.specs.declared.read.Opened.{Opened}
-use Rattle.nfp_run.specs.declared.read.Opened.TheVariants.{Pcap, Ng}
+use Rattle.call_ending.specs.declared.read.Opened.{Opened}
+use Rattle.call_ending.specs.declared.read.Opened.TheVariants.{Pcap, Ng}
 use Rattle.nfp_run.proofs.Formats.{led_streams}
 use Rattle.nfp_run.proofs.HeldBytes.{whole_prefix}
 use Rattle.nfp_run.proofs.TextsTold.{if_texts, if_told}

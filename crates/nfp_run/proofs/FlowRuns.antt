@@ -20,17 +20,20 @@ use Rattle.command_words.specs.declared.requests.FlowOptions.{FlowOptions}
 use Rattle.command_words.specs.declared.usage.UsageFault.{UsageFault}
 use Rattle.command_words.specs.Words.{Command, FlowFiles, Flows}
 use Rattle.flow_run.specs.FlowsOut.{flow_lines}
-use Rattle.nfp_run.specs.Answers.{AttachesDue, IsFinal, IsReadWhole, IsUntouched, Leaves, LeavesPrefix, LeavesPrefixes, LeavesSlot, ReachesCapture, ReadFaultCause, WriteFaultCause, name_of}
-use Rattle.nfp_run.specs.Broken.{broken_by}
-use Rattle.nfp_run.specs.Closing.{CountsWithin, EndsDue, outcome_seen, text_of}
+use Rattle.nfp_run.specs.Answers.{AttachesDue, IsFinal, IsUntouched, Leaves, LeavesPrefix, LeavesPrefixes, LeavesSlot, ReachesCapture, ReadFaultCause, WriteFaultCause, name_of}
+use Rattle.call_ending.specs.Told.{IsReadWhole}
+use Rattle.call_ending.specs.Broken.{broken_by}
+use Rattle.call_ending.specs.Endings.{CountsWithin, outcome_seen, text_of}
+use Rattle.nfp_run.specs.Closing.{EndsDue}
 use Rattle.nfp_run.specs.Due.{Due, due_of_body, due_of_command, due_of_flows, flows_note, outcome_of}
-use Rattle.nfp_run.specs.FlowsRan.{FlowsBroken, FlowsEnd, FlowsEndTold, RefusedClassic, flows_ending}
+use Rattle.nfp_run.specs.FlowsRan.{FlowsBroken, FlowsEnd, FlowsEndTold, flows_ending}
+use Rattle.call_ending.specs.Reading.{RefusedClassic}
 use Rattle.nfp_run.specs.Ran.{Ran}
 use Rattle.nfp_run.specs.Written.{Files}
-use Rattle.nfp_run.specs.declared.ending.Ending.{Ending}
-use Rattle.nfp_run.specs.declared.ending.Ending.TheVariants.{Completed, Shown, Refused, GraphRefused, Stopped}
-use Rattle.nfp_run.specs.declared.outcome.Outcome.{Outcome}
-use Rattle.nfp_run.specs.declared.outcome.Outcome.TheVariants.{Done, Usage, Policy, Graph, Capture, CaptureNg, ReadFault, WriteFault, OutOfMemory}
+use Rattle.call_ending.specs.declared.ending.Ending.{Ending}
+use Rattle.call_ending.specs.declared.ending.Ending.TheVariants.{Completed, Shown, Refused, GraphRefused, Stopped}
+use Rattle.call_ending.specs.declared.outcome.Outcome.{Outcome}
+use Rattle.call_ending.specs.declared.outcome.Outcome.TheVariants.{Done, Usage, Policy, Graph, Capture, CaptureNg, ReadFault, WriteFault, OutOfMemory}
 use Rattle.nfp_run.proofs.HeldBytes.{untouched_same, whole_prefix}
 use Rattle.nfp_run.proofs.OtherSlots.{report_is_not_capture, report_is_not_out}
 

@@ -13,8 +13,9 @@ use Rattle.pcapng_io.specs.declared.item.NgItem.{NgItem}
 use Rattle.pcapng_io.specs.declared.place.Place.{Place}
 use Rattle.nfp_run.specs.Preparing.{chains_prepared, prepared}
 use Rattle.nfp_run.specs.declared.prepared.Prepared.{Prepared}
-use Rattle.nfp_run.specs.declared.outcome.Outcome.TheVariants.{Done}
-use Rattle.nfp_run.specs.Due.{due, due_by_format, due_of_command, due_of_flows, due_of_ng, due_of_pcap, due_of_plan, due_of_run, is_ng, outcome_of}
+use Rattle.call_ending.specs.declared.outcome.Outcome.TheVariants.{Done}
+use Rattle.nfp_run.specs.Due.{due, due_by_format, due_of_command, due_of_flows, due_of_ng, due_of_pcap, due_of_plan, due_of_run, outcome_of}
+use Rattle.call_ending.specs.Told.{is_ng}
 use Rattle.capture_items.specs.declared.fault.FormatFault.TheVariants.{Ng}
 use Rattle.capture_run.specs.ChainService.{Chains}
 use Rattle.command_words.specs.declared.requests.DemoInput.{DemoInput}

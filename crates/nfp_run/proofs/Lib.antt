@@ -8,9 +8,7 @@ pub mod Formats
 pub mod GoodCalls
 pub mod HeldBytes
 pub mod NotedLines
-pub mod Opening
 pub mod OtherSlots
-pub mod PolicyEnds
 pub mod Preparations
 pub mod PutInSteps
 pub mod ReadToEnd

@@ -4,15 +4,15 @@ use Rattle.std.specs.Prelude.{Result}
 use Rattle.nfp_outside.specs.declared.slot.Slot.{Slot}
 use Rattle.nfp_outside.specs.declared.slot.Slot.TheVariants as slots
 use Rattle.nfp_outside.specs.Outside.{SlotView, IsRisen, Appends, AppendsPrefix}
-use Rattle.nfp_run.specs.declared.outcome.Outcome.{Outcome}
-use Rattle.nfp_run.specs.declared.outcome.Outcome.TheVariants.{Done, Usage, Policy, Graph, Capture, CaptureNg, ReadFault, WriteFault, OutOfMemory}
-use Rattle.nfp_run.specs.declared.ending.Ending.{Ending}
-use Rattle.nfp_run.specs.declared.ending.Ending.TheVariants.{Completed, Shown, Refused, GraphRefused, Stopped}
+use Rattle.call_ending.specs.declared.outcome.Outcome.{Outcome}
+use Rattle.call_ending.specs.declared.outcome.Outcome.TheVariants.{Done, Usage, Policy, Graph, Capture, CaptureNg, ReadFault, WriteFault, OutOfMemory}
+use Rattle.call_ending.specs.declared.ending.Ending.{Ending}
+use Rattle.call_ending.specs.declared.ending.Ending.TheVariants.{Completed, Shown, Refused, GraphRefused, Stopped}
 use Rattle.command_words.specs.declared.usage.UsageFault.{UsageFault}
 use Rattle.command_words.specs.Words.{Command}
-use Rattle.nfp_run.specs.Notes.{read_fault_text, write_fault_text}
+use Rattle.call_ending.specs.Notes.{read_fault_text, write_fault_text}
 use Rattle.nfp_run.specs.Due.{due_of_command}
-use Rattle.nfp_run.specs.Closing.{outcome_seen, untold, text_of, Notes}
+use Rattle.call_ending.specs.Endings.{outcome_seen, untold, text_of, Notes}
 use Rattle.nfp_run.specs.Ran.{Ran}
 use Rattle.nfp_run.specs.Written.{Files}
 use Rattle.nfp_run.specs.Answers.{IsFinal, NoneRose, WhereRead, Leaves, NotesPrefix, ReadFaultCause, WriteFaultCause}

@@ -25,13 +25,14 @@ use Rattle.capture_run.specs.ChainService.{Chains}
 use Rattle.nfp_run.specs.Answers.{HasPolicy, WhereTexts}
 use Rattle.nfp_run.specs.Plan.{plan_text}
 use Rattle.nfp_run.specs.Preparing.{Unprepared, chains_prepared, prepared, prepared_by, prepared_with}
-use Rattle.nfp_run.specs.Reading.{EndsAtGraph, EndsAtPolicy, EndsAtTexts, GraphRefusedBy, GraphUnread, IsPlanOf, IsReady, IsShownIn, IsUnread, PlanEnds, Prepares, Serves, ShowsPlan, TextUnread, UnreadGraphEnds, chains_run}
-use Rattle.nfp_run.specs.declared.ending.Ending.{Ending}
-use Rattle.nfp_run.specs.declared.ending.Ending.TheVariants.{Completed, Shown, Refused, GraphRefused, Stopped}
-use Rattle.nfp_run.specs.declared.outcome.Outcome.TheVariants.{Done, Usage, Policy, Graph, Capture, CaptureNg, ReadFault, WriteFault, OutOfMemory}
+use Rattle.nfp_run.specs.Reading.{EndsAtGraph, EndsAtTexts, GraphRefusedBy, GraphUnread, IsPlanOf, IsReady, IsShownIn, PlanEnds, Prepares, Serves, ShowsPlan, TextUnread, UnreadGraphEnds, chains_run}
+use Rattle.call_ending.specs.Reading.{EndsAtPolicy, IsUnread}
+use Rattle.call_ending.specs.declared.ending.Ending.{Ending}
+use Rattle.call_ending.specs.declared.ending.Ending.TheVariants.{Completed, Shown, Refused, GraphRefused, Stopped}
+use Rattle.call_ending.specs.declared.outcome.Outcome.TheVariants.{Done, Usage, Policy, Graph, Capture, CaptureNg, ReadFault, WriteFault, OutOfMemory}
 use Rattle.nfp_run.specs.declared.prepared.Prepared.{Prepared}
-use Rattle.nfp_run.specs.declared.read.Unread.{Unread}
-use Rattle.nfp_run.specs.declared.read.Unread.TheVariants.{TooLong, Failed, NoMemory}
+use Rattle.call_ending.specs.declared.read.Unread.{Unread}
+use Rattle.call_ending.specs.declared.read.Unread.TheVariants.{TooLong, Failed, NoMemory}
 use Rattle.nfp_run.proofs.ShownPlans.{few_ordered}
 use Rattle.nfp_run.proofs.TextsTold.{if_texts, if_told, texts_by_policy}
 

@@ -1,9 +1,9 @@
 -- The answer is Done if the policy, the graphs and the capture were read to their ends.
-use Rattle.std.proofs.Common.{◌≡◌, ◌∙◌, ℕ, List, [], ap, refl, sym, subst}
-use Rattle.std.specs.Prelude.{Option, Some, None, IfNone, IfOk, IfSome, MatchOption, Result, Ok, Err}
+use Rattle.std.proofs.Common.{◌≡◌, ◌∙◌, ℕ, List, ap, sym, subst}
+use Rattle.std.specs.Prelude.{Option, Some, None, IfNone, IfOk, Result, Ok, Err}
 use Rattle.nfp_outside.specs.declared.slot.Slot.{Slot}
 use Rattle.nfp_outside.specs.declared.slot.Slot.TheVariants as slots
-use Rattle.nfp_outside.specs.Outside.{ReadsAll, SlotView}
+use Rattle.nfp_outside.specs.Outside.{SlotView}
 use Rattle.pcap_io.specs.declared.capture.CaptureFault.{CaptureFault}
 use Rattle.capture_run.specs.CaptureReportProofs.{Ended}
 use Rattle.capture_items.specs.declared.fault.FormatFault.{FormatFault}
@@ -13,25 +13,20 @@ use Rattle.capture_items.specs.declared.fault.RunFault.TheVariants as faults
 use Rattle.command_words.specs.declared.usage.UsageFault.{UsageFault}
 use Rattle.command_words.specs.Words.{Command, Demo, Flows, Plan, Run}
 use Rattle.flow_line.specs.declared.line.FlowLine.{FlowLine}
-use Rattle.nfp_run.specs.Answers.{AreTextsReadWhole, IsReadWhole, ReadsToEnd}
-use Rattle.nfp_run.specs.Closing.{closed, ending_of, outcome_seen}
+use Rattle.nfp_run.specs.Answers.{AreTextsReadWhole, ReadsToEnd}
+use Rattle.call_ending.specs.Told.{IsReadWhole}
+use Rattle.nfp_run.specs.Closing.{closed, ending_of}
+use Rattle.call_ending.specs.Endings.{outcome_seen}
 use Rattle.nfp_run.specs.FlowsRan.{flows_ending}
-use Rattle.nfp_run.specs.Reading.{EndsAtTexts, RefusedOpening}
-use Rattle.nfp_run.specs.declared.ending.Ending.{Ending}
-use Rattle.nfp_run.specs.declared.ending.Ending.TheVariants.{Completed, Shown, Refused, GraphRefused, Stopped}
+use Rattle.nfp_run.specs.Reading.{EndsAtTexts}
+use Rattle.call_ending.specs.Reading.{RefusedOpening}
+use Rattle.call_ending.specs.declared.ending.Ending.{Ending}
+use Rattle.call_ending.specs.declared.ending.Ending.TheVariants.{Completed, Shown, Refused, GraphRefused, Stopped}
 use Rattle.nfp_run.specs.declared.prepared.Prepared.{Prepared}
-use Rattle.nfp_run.specs.declared.outcome.Outcome.{Outcome}
-use Rattle.nfp_run.specs.declared.outcome.Outcome.TheVariants.{Done, Usage, Policy, Graph, Capture, CaptureNg, ReadFault, WriteFault, OutOfMemory}
+use Rattle.call_ending.specs.declared.outcome.Outcome.{Outcome}
+use Rattle.call_ending.specs.declared.outcome.Outcome.TheVariants.{Done, Usage, Policy, Graph, Capture, CaptureNg, ReadFault, WriteFault, OutOfMemory}
 
 -- ---- the policy and the graphs
-
--- nothing is left of a text of which all bytes were read
-pub all_read : (all : List ℕ) (max : ℕ) (old new : SlotView) → ReadsAll all max old new → IsReadWhole new
-all_read all max old new reads = go old.bytes reads.told
-  where
-    go : (o : Option (List ℕ)) → MatchOption o (new.bytes ≡ None) (λ bytes. (bytes ≡ all) × (new.bytes ≡ Some [])) → IsReadWhole new
-    go None left = subst (λ o. IfSome o (λ bytes. bytes ≡ [])) (sym left) tt
-    go (Some bytes) (is, left) = subst (λ o. IfSome o (λ bytes. bytes ≡ [])) (sym left) refl
 
 pub policy_whole : (new : Slot → SlotView) (r : Result Prepared Ending) → IsReadWhole (new slots.Policy) → IfOk r (λ p. AreTextsReadWhole None new)
 policy_whole new (Ok p) policy = policy

@@ -13,14 +13,17 @@ use Rattle.pcap_io.specs.declared.capture.CaptureFault.{CaptureFault}
 use Rattle.pcapng_io.specs.Blocks.{next_of, start}
 use Rattle.pcapng_io.specs.declared.fault.NgFault.{NgFault}
 use Rattle.nfp_run.specs.Answers.{AttachesDue, HasNames, IsFinal, IsUntouched, NoneAttached, ReachesCapture, ReadFaultCause, WhereRead}
-use Rattle.nfp_run.specs.Closing.{EndsDue, outcome_seen}
-use Rattle.nfp_run.specs.Due.{Due, due_by_format, due_of_capture, due_of_command, due_of_ng, due_of_pcap, is_ng, nothing_but}
+use Rattle.nfp_run.specs.Closing.{EndsDue}
+use Rattle.call_ending.specs.Endings.{outcome_seen}
+use Rattle.nfp_run.specs.Due.{Due, due_by_format, due_of_capture, due_of_command, due_of_ng, due_of_pcap, nothing_but}
+use Rattle.call_ending.specs.Told.{is_ng}
 use Rattle.nfp_run.specs.Preparing.{prepared}
-use Rattle.nfp_run.specs.Reading.{EndsAtTexts, RefusedOpening, Serves}
-use Rattle.nfp_run.specs.declared.ending.Ending.{Ending}
-use Rattle.nfp_run.specs.declared.ending.Ending.TheVariants.{Completed, Shown, Refused, GraphRefused, Stopped}
-use Rattle.nfp_run.specs.declared.outcome.Outcome.{Outcome}
-use Rattle.nfp_run.specs.declared.outcome.Outcome.TheVariants.{Done, Usage, Policy, Graph, Capture, CaptureNg, ReadFault, WriteFault, OutOfMemory}
+use Rattle.nfp_run.specs.Reading.{EndsAtTexts, Serves}
+use Rattle.call_ending.specs.Reading.{RefusedOpening}
+use Rattle.call_ending.specs.declared.ending.Ending.{Ending}
+use Rattle.call_ending.specs.declared.ending.Ending.TheVariants.{Completed, Shown, Refused, GraphRefused, Stopped}
+use Rattle.call_ending.specs.declared.outcome.Outcome.{Outcome}
+use Rattle.call_ending.specs.declared.outcome.Outcome.TheVariants.{Done, Usage, Policy, Graph, Capture, CaptureNg, ReadFault, WriteFault, OutOfMemory}
 use Rattle.nfp_run.proofs.EndedRuns.{has_texts, run_due}
 use Rattle.nfp_run.proofs.OtherSlots.{capture_is_not_graph, capture_is_not_policy, note_is_not_graph, note_is_not_policy, out_is_not_graph, out_is_not_policy, report_is_not_graph, report_is_not_policy}
 use Rattle.nfp_run.proofs.TextEnds.{Beside, beside_name}

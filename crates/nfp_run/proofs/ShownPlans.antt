@@ -14,9 +14,9 @@ use Rattle.nfp_run.specs.Plan.{plans}
 use Rattle.nfp_outside.specs.declared.slot.Slot.{Slot}
 use Rattle.nfp_outside.specs.declared.slot.Slot.TheVariants as slots
 use Rattle.nfp_outside.specs.Outside.{SlotView}
-use Rattle.nfp_run.specs.declared.ending.Ending.{Ending}
-use Rattle.nfp_run.specs.declared.ending.Ending.TheVariants.{Completed, Shown, Refused, GraphRefused, Stopped}
-use Rattle.nfp_run.specs.declared.outcome.Outcome.TheVariants.{Done, Usage, Policy, Graph, Capture, CaptureNg, ReadFault, WriteFault, OutOfMemory}
+use Rattle.call_ending.specs.declared.ending.Ending.{Ending}
+use Rattle.call_ending.specs.declared.ending.Ending.TheVariants.{Completed, Shown, Refused, GraphRefused, Stopped}
+use Rattle.call_ending.specs.declared.outcome.Outcome.TheVariants.{Done, Usage, Policy, Graph, Capture, CaptureNg, ReadFault, WriteFault, OutOfMemory}
 use Rattle.nfp_run.specs.declared.prepared.Prepared.{Prepared}
 use Rattle.command_words.specs.declared.usage.UsageFault.{UsageFault}
 use Rattle.command_words.specs.declared.requests.DemoInput.{DemoInput}
@@ -24,7 +24,8 @@ use Rattle.command_words.specs.declared.requests.RunOptions.{RunOptions}
 use Rattle.command_words.specs.Words.{Command, Plan, PlanFiles, Demo}
 use Rattle.nfp_run.specs.Due.{due_of_plan, due_of_command}
 use Rattle.nfp_run.specs.Answers.{HasNames, IsUntouched, ReachesCapture, ReadsToEnd}
-use Rattle.nfp_run.specs.Closing.{EndsDue, outcome_seen}
+use Rattle.nfp_run.specs.Closing.{EndsDue}
+use Rattle.call_ending.specs.Endings.{outcome_seen}
 use Rattle.plan_text.specs.Plan.{chain_plan}
 use Rattle.nfp_run.specs.Preparing.{Unprepared, prepared}
 use Rattle.nfp_run.specs.Ran.{Ran}

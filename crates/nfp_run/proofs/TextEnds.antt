@@ -12,16 +12,17 @@ use Rattle.policy_judge.specs.declared.fault.Refusal.{Refusal}
 use Rattle.policy_judge.specs.declared.judged.Judged.{Judged}
 use Rattle.policy_judge.specs.Judging.{judged}
 use Rattle.nfp_run.specs.Answers.{AttachesDue, GraphCause, HasNames, IsFaultOf, IsGraphFaultOf, IsUntouched, LeavesPrefix, LeavesPrefixes, NoneAttached, ReachesCapture, ReadFaultCause, ReadsGraph, ReadsPolicy, WhereRead, WhereTexts}
-use Rattle.nfp_run.specs.Closing.{EndsDue, outcome_seen}
+use Rattle.nfp_run.specs.Closing.{EndsDue}
+use Rattle.call_ending.specs.Endings.{outcome_seen}
 use Rattle.nfp_run.specs.Due.{due_of_command, due_of_fault}
 use Rattle.nfp_run.specs.Preparing.{ByGraph, ByPolicy, Unprepared, prepared, prepared_by}
 use Rattle.nfp_run.specs.Ran.{Ran}
 use Rattle.nfp_run.specs.Reading.{EndsAtTexts, GraphFails, TextUnread}
 use Rattle.nfp_run.specs.Written.{Files}
-use Rattle.nfp_run.specs.declared.ending.Ending.{Ending}
-use Rattle.nfp_run.specs.declared.ending.Ending.TheVariants.{Completed, Shown, Refused, GraphRefused, Stopped}
-use Rattle.nfp_run.specs.declared.ending.GraphRefusal.{GraphRefusal}
-use Rattle.nfp_run.specs.declared.outcome.Outcome.TheVariants.{Done, Usage, Policy, Graph, Capture, CaptureNg, ReadFault, WriteFault, OutOfMemory}
+use Rattle.call_ending.specs.declared.ending.Ending.{Ending}
+use Rattle.call_ending.specs.declared.ending.Ending.TheVariants.{Completed, Shown, Refused, GraphRefused, Stopped}
+use Rattle.call_ending.specs.declared.ending.GraphRefusal.{GraphRefusal}
+use Rattle.call_ending.specs.declared.outcome.Outcome.TheVariants.{Done, Usage, Policy, Graph, Capture, CaptureNg, ReadFault, WriteFault, OutOfMemory}
 use Rattle.nfp_run.specs.declared.prepared.Prepared.{Prepared}
 use Rattle.nfp_run.proofs.HeldBytes.{untouched_same}
 use Rattle.nfp_run.proofs.OtherSlots.{capture_is_not_graph, capture_is_not_policy, note_is_not_graph, note_is_not_policy, out_is_not_graph, out_is_not_policy, report_is_not_graph, report_is_not_policy}

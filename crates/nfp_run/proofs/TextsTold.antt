@@ -1,12 +1,13 @@
 -- Facts about the bytes of the texts and of the capture, if the desk shows what the words read.
-use Rattle.std.proofs.Common.{◌≡◌, ℕ, List, sym, subst}
+use Rattle.std.proofs.Common.{ℕ, List}
 use Rattle.std.specs.Prelude.{Option, Some, None, IfSome, Result, Ok, Err}
 use Rattle.nfp_outside.specs.declared.slot.Slot.{Slot}
 use Rattle.nfp_outside.specs.declared.slot.Slot.TheVariants as slots
 use Rattle.nfp_outside.specs.Outside.{SlotView}
 use Rattle.command_words.specs.declared.usage.UsageFault.{UsageFault}
 use Rattle.command_words.specs.Words.{Command, Run, Plan, Demo, Flows}
-use Rattle.nfp_run.specs.Answers.{OfBytes, WhereNamed, WhereRead, WhereTexts}
+use Rattle.call_ending.specs.Told.{OfBytes}
+use Rattle.nfp_run.specs.Answers.{WhereNamed, WhereRead, WhereTexts}
 
 -- if one fact gives another for all bytes, it gives it for the known bytes
 pub if_told : (o : Option (List ℕ)) (P Q : List ℕ → Type 0) → ((bytes : List ℕ) → P bytes → Q bytes) → IfSome o P → IfSome o Q
@@ -18,11 +19,6 @@ told_always None P f = tt
 told_always (Some bytes) P f = f bytes
 
 -- ---- the known bytes, or some
-
--- a fact about what was read
-pub of_read : (o : Option (List ℕ)) (read : List ℕ) (P : List ℕ → Type 0) → IfSome o (λ bytes. bytes ≡ read) → P read → OfBytes o P
-of_read None read P is here = (read, here)
-of_read (Some bytes) read P is here = subst P (sym is) here
 
 -- if one fact gives another for all bytes, it gives it here too
 pub if_of : (o : Option (List ℕ)) (P Q : List ℕ → Type 0) → ((bytes : List ℕ) → P bytes → Q bytes) → OfBytes o P → OfBytes o Q

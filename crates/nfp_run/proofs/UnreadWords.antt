@@ -6,8 +6,8 @@ use Rattle.nfp_outside.specs.declared.slot.Slot.TheVariants as slots
 use Rattle.nfp_outside.specs.Outside.{SlotView}
 use Rattle.command_words.specs.declared.usage.UsageFault.{UsageFault}
 use Rattle.command_words.specs.Words.{Command, Run, Plan, Demo, Flows}
-use Rattle.nfp_run.specs.declared.ending.Ending.TheVariants.{Stopped}
-use Rattle.nfp_run.specs.declared.outcome.Outcome.TheVariants.{OutOfMemory}
+use Rattle.call_ending.specs.declared.ending.Ending.TheVariants.{Stopped}
+use Rattle.call_ending.specs.declared.outcome.Outcome.TheVariants.{OutOfMemory}
 use Rattle.nfp_run.specs.Answers.{AttachesDue, HasNames, LeavesPrefix, LeavesPrefixes}
 use Rattle.nfp_run.specs.Due.{due_of_command}
 use Rattle.nfp_run.specs.Ran.{Ran}

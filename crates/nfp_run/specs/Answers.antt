@@ -13,14 +13,15 @@ use Rattle.policy_judge.specs.declared.fault.PolicyFault.{PolicyFault}
 use Rattle.policy_judge.specs.declared.fault.Refusal.{Refusal}
 use Rattle.policy_judge.specs.declared.judged.Judged.{Judged}
 use Rattle.policy_judge.specs.Judging.{judged}
-use Rattle.nfp_run.specs.declared.outcome.Outcome.{Outcome}
-use Rattle.nfp_run.specs.declared.outcome.Outcome.TheVariants.{Done, Usage, Policy, Graph, Capture, CaptureNg, ReadFault, WriteFault, OutOfMemory}
+use Rattle.call_ending.specs.declared.outcome.Outcome.{Outcome}
+use Rattle.call_ending.specs.declared.outcome.Outcome.TheVariants.{Done, Usage, Policy, Graph, Capture, CaptureNg, ReadFault, WriteFault, OutOfMemory}
 use Rattle.command_words.specs.declared.usage.UsageFault.{UsageFault}
 use Rattle.command_words.specs.Words.{Command, Run, Plan, Demo, Flows}
-use Rattle.nfp_run.specs.Notes.{read_fault_text, write_fault_text}
+use Rattle.call_ending.specs.Notes.{read_fault_text, write_fault_text}
 use Rattle.nfp_run.specs.Preparing.{Unprepared, ByPolicy, ByGraph, prepared}
 use Rattle.nfp_run.specs.declared.prepared.Prepared.{Prepared}
-use Rattle.nfp_run.specs.Due.{Due, is_ng}
+use Rattle.nfp_run.specs.Due.{Due}
+use Rattle.call_ending.specs.Told.{is_ng}
 use Rattle.nfp_run.specs.Written.{Files}
 
 -- A slot that was never attached: it has no name, and its bytes are those before.
@@ -134,11 +135,6 @@ abbrev pub HasNames : Result Command UsageFault → (Slot → SlotView) → Type
 HasNames (Err fault) new = (s : Slot) → (new s).name ≡ None
 HasNames (Ok command) new = (s : Slot) → ((new s).name ≡ None) ⊎ ((new s).name ≡ name_of command s)
 
--- a fact about the bytes of a slot that was read: those that the desk shows, or some bytes if it shows none
-abbrev pub OfBytes : Option (List ℕ) → (List ℕ → Type 0) → Type 0
-OfBytes None P = (bytes : List ℕ) × P bytes
-OfBytes (Some bytes) P = P bytes
-
 -- the policy has no fault, if the desk shows it
 abbrev pub HasPolicy : (Slot → SlotView) → Type 0
 HasPolicy old = IfSome (old slots.Policy).bytes (λ bytes. IsOk (judged bytes))
@@ -235,10 +231,6 @@ AttachesDue (Ok (Plan names)) outcome new = NoneAttached new
 AttachesDue (Ok (Demo input options)) outcome new = NoneAttached new
 AttachesDue (Ok (Flows names options)) outcome new = FlowsAttach outcome new
 AttachesDue (Err fault) outcome new = NoneAttached new
-
--- nothing is left of a slot that is read, if the desk shows it
-abbrev pub IsReadWhole : SlotView → Type 0
-IsReadWhole slot = IfSome slot.bytes (λ bytes. bytes ≡ [])
 
 -- the same for the policy, and for the graphs if they have a name among the words
 abbrev pub AreTextsReadWhole : Option (List ℕ) → (Slot → SlotView) → Type 0

@@ -1,7 +1,6 @@
 -- Believed: the result: the answer to words, a policy, graphs and a capture.
-use Rattle.std.specs.Prelude.{ℕ, List, [], ◌∷◌, length, take, count_by, Bool, true, false, Option, Some, None, Result, Ok, Err}
+use Rattle.std.specs.Prelude.{ℕ, List, length, count_by, Bool, true, false, Option, Some, None, Result, Ok, Err}
 use Rattle.std.specs.Option.{option_map}
-use Rattle.std.specs.Str.{bytes_eq}
 use Rattle.capture_bytes.specs.declared.packet.Unit.{Unit as TimeUnit}
 use Rattle.flow_run.specs.FlowsOut.{flow_lines, flows_out}
 use Rattle.pcap_io.specs.Capture.{Body, capture_of}
@@ -12,8 +11,8 @@ use Rattle.pcapng_io.specs.declared.fault.NgFault.{NgFault}
 use Rattle.pcapng_io.specs.declared.item.NgItem.{NgItem}
 use Rattle.pcapng_io.specs.declared.place.Place.{Place}
 use Rattle.chain_walk.specs.declared.walk.Fate.{Fate}
-use Rattle.nfp_run.specs.declared.outcome.Outcome.{Outcome}
-use Rattle.nfp_run.specs.declared.outcome.Outcome.TheVariants as outcomes
+use Rattle.call_ending.specs.declared.outcome.Outcome.{Outcome}
+use Rattle.call_ending.specs.declared.outcome.Outcome.TheVariants as outcomes
 use Rattle.command_words.specs.declared.usage.UsageFault.{UsageFault}
 use Rattle.command_words.specs.Words.{Command, Run, Plan, Demo, Flows, command_of}
 use Rattle.capture_run.specs.ChainService.{Chains}
@@ -23,7 +22,8 @@ use Rattle.capture_items.specs.declared.fault.FormatFault.{FormatFault}
 use Rattle.capture_items.specs.declared.fault.FormatFault.TheVariants.{Ng, Pcap}
 use Rattle.nfp_run.specs.Written.{Files, Led, both, led_ng, led_pcap, neither, out_alone}
 use Rattle.nfp_run.specs.DemoNote.{demo_text}
-use Rattle.nfp_run.specs.Notes.{usage_text, done_text, flows_text}
+use Rattle.call_ending.specs.Notes.{usage_text, done_text}
+use Rattle.nfp_run.specs.Notes.{flows_text}
 use Rattle.nfp_run.specs.Plan.{plan_text}
 use Rattle.nfp_run.specs.Preparing.{Unprepared, ByPolicy, ByGraph, chains_prepared, prepared}
 use Rattle.nfp_run.specs.declared.prepared.Prepared.{Prepared}
@@ -61,13 +61,6 @@ due_of_pcap chains (Ok capture) = due_of_led (led_pcap chains capture.0 capture.
 abbrev pub due_of_ng : Chains → List ℕ → Result (Option (NgItem × Place × List ℕ)) NgFault → Due
 due_of_ng chains capture (Err fault) = nothing_but (outcomes.CaptureNg fault) (ng_text fault)
 due_of_ng chains capture (Ok first) = due_of_led (led_ng chains (blocks_of start capture))
-
--- these first four bytes are the type of a section header block, with which a pcapng capture begins
-abbrev pub is_ng_front : List ℕ → Bool
-is_ng_front first = bytes_eq first (0x0a ∷ 0x0d ∷ 0x0d ∷ 0x0a ∷ [])
-
-abbrev pub is_ng : List ℕ → Bool
-is_ng capture = is_ng_front (take 4 capture)
 
 -- a capture by its format
 abbrev pub due_by_format : Bool → Chains → List ℕ → Due

@@ -1,13 +1,11 @@
 -- For proofs: how a call that exports the flows of a capture ends.
-use Rattle.std.specs.Prelude.{◌≡◌, ℕ, List, length, IfSome, IsSomeAnd, Option, Some, None, Result, Ok, Err}
+use Rattle.std.specs.Prelude.{◌≡◌, ℕ, List, length, Option, Some, None, Result, Ok, Err}
 use Rattle.nfp_outside.specs.declared.slot.Slot.{Slot}
 use Rattle.nfp_outside.specs.declared.slot.Slot.TheVariants as slots
 use Rattle.nfp_outside.specs.Outside.{SlotView, IsRisen}
 use Rattle.capture_bytes.specs.declared.packet.Unit.{Unit as TimeUnit}
-use Rattle.pcap_io.specs.Capture.{Body, IsHeadFault, capture_of}
-use Rattle.pcap_io.specs.Reader.{ReaderState, body_left, reader_at}
+use Rattle.pcap_io.specs.Capture.{Body, IsHeadFault}
 use Rattle.pcap_io.specs.declared.capture.CaptureFault.{CaptureFault}
-use Rattle.pcap_io.specs.declared.capture.CaptureHead.{CaptureHead}
 use Rattle.capture_items.specs.declared.fault.RunFault.{RunFault}
 use Rattle.capture_items.specs.declared.fault.RunFault.TheVariants as faults
 use Rattle.flow_line.specs.declared.line.FlowLine.{FlowLine}
@@ -15,10 +13,9 @@ use Rattle.flow_run.specs.FlowsOut.{flow_lines}
 use Rattle.nfp_run.specs.Answers.{Leaves, LeavesPrefixes}
 use Rattle.nfp_run.specs.Due.{due_of_body}
 use Rattle.nfp_run.specs.Notes.{flows_text}
-use Rattle.nfp_run.specs.declared.ending.Ending.{Ending}
-use Rattle.nfp_run.specs.declared.ending.Ending.TheVariants.{Completed, Shown, Refused, GraphRefused, Stopped}
-use Rattle.nfp_run.specs.declared.outcome.Outcome.{Outcome}
-use Rattle.nfp_run.specs.declared.outcome.Outcome.TheVariants.{Done, Usage, Policy, Graph, Capture, CaptureNg, ReadFault, WriteFault, OutOfMemory}
+use Rattle.call_ending.specs.declared.ending.Ending.{Ending}
+use Rattle.call_ending.specs.declared.ending.Ending.TheVariants.{Completed, Shown, Refused, GraphRefused, Stopped}
+use Rattle.call_ending.specs.declared.outcome.Outcome.TheVariants.{Capture, ReadFault, WriteFault, OutOfMemory}
 
 -- how a call that has exported these lines of this number of records ends, by the fault of the capture
 abbrev pub flows_ending : ℕ → List FlowLine → Option CaptureFault → Ending
@@ -45,21 +42,3 @@ FlowsEndTold (Stopped outcome) = ⊥
 FlowsEndTold (Completed totals) = ⊥
 FlowsEndTold (Refused refusal) = ⊥
 FlowsEndTold (GraphRefused refusal) = ⊥
-
--- A classic capture was opened by its name: all of it except its head remains, and the head has no fault.
-pub record OpensClassic (name : List ℕ) (head : CaptureHead) (reader : ReaderState) (old new : SlotView) : Type 0 where
-  pub named : new.name ≡ Some name
-  pub fresh : reader ≡ reader_at head.order 0
-  pub whole : IfSome old.bytes (λ bytes. IsSomeAnd (body_left reader new) (λ body. capture_of bytes ≡ Ok (head, body)))
-
--- Why none was: its head is refused, its count rose, or it ran out of memory.
-abbrev pub RefusedClassic : SlotView → SlotView → Outcome → Type 0
-RefusedClassic old new (Capture fault) = IsHeadFault fault × IfSome old.bytes (λ bytes. capture_of bytes ≡ Err fault)
-RefusedClassic old new (ReadFault s) = (s ≡ slots.Capture) × IsRisen old.faults new.faults
-RefusedClassic old new OutOfMemory = Unit {0}
-RefusedClassic old new Done = ⊥
-RefusedClassic old new (Usage fault) = ⊥
-RefusedClassic old new (Policy fault) = ⊥
-RefusedClassic old new (Graph fault) = ⊥
-RefusedClassic old new (CaptureNg fault) = ⊥
-RefusedClassic old new (WriteFault s) = ⊥

@@ -1,6 +1,5 @@
 pub mod Answers
 pub mod Attached
-pub mod Broken
 pub mod Closing
 pub mod DemoNote
 pub mod Due
@@ -12,5 +11,4 @@ pub mod Plan
 pub mod Preparing
 pub mod Ran
 pub mod Reading
-pub mod Status
 pub mod Written

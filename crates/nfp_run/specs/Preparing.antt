@@ -8,7 +8,7 @@ use Rattle.policy_judge.specs.declared.fault.Refusal.{Refusal}
 use Rattle.policy_judge.specs.declared.judged.Judged.{Judged}
 use Rattle.capture_run.specs.ChainService.{Chains, service_among}
 use Rattle.nfp_run.specs.GraphLines.{graph_line}
-use Rattle.nfp_run.specs.declared.ending.GraphRefusal.{GraphRefusal}
+use Rattle.call_ending.specs.declared.ending.GraphRefusal.{GraphRefusal}
 use Rattle.nfp_run.specs.declared.prepared.Prepared.{Prepared}
 
 -- Why nothing runs and nothing is shown: the policy has a fault, or the graphs have, with the line that reports it.

@@ -1,35 +1,16 @@
 //! Attaches the slots that are written, and puts the head of a capture into Out.
-ghost use Rattle.std.specs.Prelude.{◌≡◌, ◌≢◌, ◌≤◌, [], IfErr, IfOk, OnOk, IsSome, false};
+ghost use Rattle.std.specs.Prelude.{◌≡◌, ◌≢◌, [], IfErr, IfOk, OnOk, IsSome};
 ghost use Rattle.nfp_outside.specs.declared.slot.Slot.{Slot};
-ghost use Rattle.nfp_outside.specs.Outside.{is_read, Attaches};
 ghost use Rattle.pcap_io.specs.Written.{head_bytes};
 ghost use Rattle.capture_run.specs.ChainServiceProofs.{chains_of};
 ghost use Rattle.capture_items.specs.Slots.{Puts, Breaks, fault_seen};
-ghost use Rattle.nfp_run.specs.Attached.{RefusesAttaching};
 ghost use Rattle.nfp_run.specs.Heads.{written_head};
 
 use crate::head::written_head;
 use capture_items::RunFault;
 use capture_run::Service;
-use nfp_outside::{Desk, DeskFault, OutsideFault, Slot};
+use nfp_outside::{Desk, OutsideFault, Slot};
 use pcap_io::{CaptureHead, Writer};
-
-/// Attaches a slot that is written.
-pub fn attach_sink<D: Desk>(desk: &mut D, slot: Slot, name: &str) -> Result<(), RunFault>
-    requires write_slot { is_read slot ≡ false }
-    requires not_note { slot ≢ Slot.Note }
-    requires free { (D.slots desk.old slot).name ≡ None }
-    ensures ok { OnOk result (Attaches slot name.now (D.slots desk.old slot) (D.slots desk.new slot)) }
-    ensures err { IfErr result (RefusesAttaching slot (D.slots desk.old slot) (D.slots desk.new slot)) }
-    ensures later { (D.slots desk.old slot).faults ≤ (D.slots desk.new slot).faults }
-    ensures others { (s : Slot) → s ≢ slot → D.slots desk.new s ≡ D.slots desk.old s }
-{
-    match desk.attach(slot, name) {
-        Ok(()) => Ok(()),
-        Err(DeskFault::Failed) => Err(RunFault::WriteFault(slot)),
-        Err(DeskFault::NoMemory) => Err(RunFault::OutOfMemory),
-    }
-}
 
 /// Puts the head of the written capture into Out, for a capture with this head that runs through the chains.
 pub fn put_head<D: Desk>(

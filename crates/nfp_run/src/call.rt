@@ -1,5 +1,5 @@
 //! The top call, with the program's theorem.
-ghost use Rattle.std.specs.Prelude.{◌≡◌, ◌≢◌, ◌⊎◌, ℕ, List, [], map, IfSome, Err, None, string_bytes};
+ghost use Rattle.std.specs.Prelude.{◌≡◌, ◌≢◌, ◌⊎◌, [], map, IfSome, Err, None, string_bytes};
 ghost use Rattle.nfp_outside.specs.declared.slot.Slot.{Slot};
 ghost use Rattle.nfp_outside.specs.Outside.{Appends, AppendsPrefix, IsRisen};
 ghost use Rattle.graph_text.specs.declared.fault.GraphFault.{GraphFault};
@@ -10,8 +10,7 @@ ghost use Rattle.nfp_run.specs.Due.{due};
 ghost use Rattle.command_words.specs.Words.{command_of};
 
 use crate::commands::run_words;
-use crate::note::put_note;
-use crate::outcome::Outcome;
+use call_ending::{Outcome, put_note};
 use nfp_outside::{Desk, Gate};
 use std::alloc::Global;
 use std::rt::Clock;

@@ -5,11 +5,10 @@ ghost use Rattle.nfp_run.specs.Ran.{Ran};
 ghost use Rattle.command_words.specs.Words.{command_of};
 
 use crate::demo::demo;
-use crate::ending::Ending;
 use crate::flows::flows;
-use crate::outcome::Outcome;
 use crate::plan::plan;
 use crate::run::run;
+use call_ending::{Ending, Outcome};
 use command_words::{Command, WordsFault, read_command};
 use nfp_outside::{Desk, Gate};
 use std::alloc::Global;

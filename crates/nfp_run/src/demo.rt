@@ -15,9 +15,8 @@ ghost use Rattle.nfp_run.specs.Written.{written_of};
 
 use crate::attach::put_head;
 use crate::demo_source::DemoSource;
-use crate::ending::Ending;
-use crate::outcome::Outcome;
 use crate::ways::merging_by;
+use call_ending::{Ending, Outcome};
 use capture_items::{RunFault, Totals};
 use capture_run::{Ended, Service, make_service, run_capture};
 use command_words::{DemoInput, RunOptions};

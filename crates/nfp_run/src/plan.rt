@@ -6,14 +6,13 @@ ghost use Rattle.plan_text.specs.Plan.{chain_plan};
 ghost use Rattle.plan_text.specs.Putting.{IsShownFor};
 ghost use Rattle.policy_judge.specs.Orders.{IsOrdered};
 ghost use Rattle.nfp_run.specs.Answers.{AreTextsReadWhole};
-ghost use Rattle.nfp_run.specs.Closing.{outcome_seen};
+ghost use Rattle.call_ending.specs.Endings.{outcome_seen};
 ghost use Rattle.nfp_run.specs.Plan.{plan_text};
 ghost use Rattle.nfp_run.specs.Reading.{IsReady, PlanEnds};
 
-use crate::ending::Ending;
-use crate::outcome::Outcome;
 use crate::prepare::prepare;
 use crate::prepared::Prepared;
+use call_ending::{Ending, Outcome};
 use command_words::PlanNames;
 use graph_compile::Graph;
 use item_list::Items;

@@ -30,7 +30,7 @@ use Rattle.nf_observe.specs.StateLines.{flow_line, endpoint_text}
 use Rattle.first_sight.specs.Addresses.{dotted}
 use Rattle.chain_walk.specs.Packets.{fates}
 use Rattle.chain_walk.specs.Walk.{walk}
-use Rattle.nfp_run.specs.declared.outcome.Outcome.TheVariants.{Done, Graph, Policy}
+use Rattle.call_ending.specs.declared.outcome.Outcome.TheVariants.{Done, Graph, Policy}
 use Rattle.nfp_run.specs.Written.{both}
 use Rattle.nfp_run.specs.Due.{due_of_plan, due_of_run, nothing_but}
 use Rattle.piece_walk.specs.PiecePackets.{passed}
@@ -40,7 +40,7 @@ use Rattle.segment_run.specs.Counting.{copies_through}
 use Rattle.graph_compile.specs.Cutting.{cut}
 use Rattle.burst_walk.specs.Fates.{chains_behind, fates_of}
 use Rattle.capture_run.specs.Emitted.{emitted_all, out_bytes}
-use Rattle.nfp_run.specs.Notes.{done_text}
+use Rattle.call_ending.specs.Notes.{done_text}
 use Rattle.nfp_run.specs.Plan.{plan_text}
 use Rattle.packet_fields.specs.Writing.{written_in}
 use Rattle.action_profile.specs.Modes.{mode_of, copies}

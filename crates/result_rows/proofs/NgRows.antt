@@ -25,7 +25,7 @@ use Rattle.nf_filter.specs.Firewalls.{passes}
 use Rattle.nf_filter.specs.Lines.{line_of}
 use Rattle.chain_walk.specs.Packets.{fates}
 use Rattle.chain_walk.specs.Walk.{walk}
-use Rattle.nfp_run.specs.declared.outcome.Outcome.TheVariants.{Done, CaptureNg}
+use Rattle.call_ending.specs.declared.outcome.Outcome.TheVariants.{Done, CaptureNg}
 use Rattle.nfp_run.specs.Written.{both}
 use Rattle.nfp_run.specs.Due.{due_of_run, nothing_but}
 use Rattle.piece_walk.specs.PiecePackets.{passed as passed_on}
@@ -38,7 +38,7 @@ use Rattle.capture_run.specs.EmittedNg.{ng_out_bytes}
 use Rattle.capture_report.specs.Report.{chain_lines, copies_due, copies_lines, drop_lines, drop_text, function_text, last_line, report_bytes, summary}
 use Rattle.capture_items.specs.Totals.{total_line}
 use Rattle.capture_items.specs.FaultLines.{ng_text}
-use Rattle.nfp_run.specs.Notes.{done_text}
+use Rattle.call_ending.specs.Notes.{done_text}
 use Rattle.packet_fields.specs.Writing.{written_in}
 use Rattle.action_profile.specs.Modes.{mode_of, copies}
 use Rattle.graph_compile.specs.Parts.{branch_reads, branch_writes, touch_of, stage_parts}

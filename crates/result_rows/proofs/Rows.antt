@@ -41,7 +41,7 @@ use Rattle.chain_walk.specs.Packets.{fates}
 use Rattle.chain_walk.specs.Walk.{walk}
 use Rattle.command_words.specs.declared.usage.UsageFault.TheVariants.{Merge}
 use Rattle.command_words.specs.Given.{given_by}
-use Rattle.nfp_run.specs.declared.outcome.Outcome.TheVariants.{Done, Usage, Policy, Capture}
+use Rattle.call_ending.specs.declared.outcome.Outcome.TheVariants.{Done, Usage, Policy, Capture}
 use Rattle.nfp_run.specs.Written.{both}
 use Rattle.nfp_run.specs.Due.{Due, due, due_of_plan, due_of_run, nothing_but}
 use Rattle.piece_walk.specs.PiecePackets.{passed}
@@ -55,7 +55,7 @@ use Rattle.capture_report.specs.Report.{chain_lines, copies_due, copies_lines, c
 use Rattle.capture_items.specs.Totals.{total_line}
 use Rattle.capture_items.specs.FaultLines.{capture_text}
 use Rattle.nfp_run.specs.Heads.{written_head}
-use Rattle.nfp_run.specs.Notes.{done_text}
+use Rattle.call_ending.specs.Notes.{done_text}
 use Rattle.nfp_run.specs.Plan.{plan_text}
 use Rattle.packet_fields.specs.Writing.{written_in}
 use Rattle.packet_fields.specs.Fields.{number_of}

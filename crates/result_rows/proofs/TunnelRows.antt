@@ -46,9 +46,9 @@ use Rattle.burst_walk.specs.Fates.{chains_behind, fates_of}
 use Rattle.capture_run.specs.Emitted.{emitted_all, out_bytes}
 use Rattle.capture_report.specs.Report.{chain_lines, copies_due, copies_lines, drop_lines, drop_text, function_text, last_line, report_bytes, summary}
 use Rattle.capture_items.specs.Totals.{total_line}
-use Rattle.nfp_run.specs.declared.outcome.Outcome.TheVariants.{Done, Policy}
+use Rattle.call_ending.specs.declared.outcome.Outcome.TheVariants.{Done, Policy}
 use Rattle.nfp_run.specs.Due.{due_of_run, nothing_but}
-use Rattle.nfp_run.specs.Notes.{done_text}
+use Rattle.call_ending.specs.Notes.{done_text}
 use Rattle.nfp_run.specs.Written.{both}
 
 -- version 2.4, Ethernet, with a snaplen of these low three bytes

@@ -4,7 +4,7 @@ use Rattle.nfp_outside.specs.declared.slot.Slot.TheVariants.{Out, Report}
 use Rattle.command_words.specs.Named.{files_seen}
 use Rattle.command_words.specs.Words.{Flows}
 use Rattle.nfp_run.specs.Ran.{Ran}
-use Rattle.nfp_run.specs.declared.ending.Ending.TheVariants.{Stopped}
+use Rattle.call_ending.specs.declared.ending.Ending.TheVariants.{Stopped}
 use Rattle.nfp_run.proofs.FlowRuns.{Stands, Stays, broken, exported, unopened}
 use Rattle.nfp_run.proofs.OtherSlots.{out_is_not_capture, report_is_not_capture}
 use Rattle.nfp_run.proofs.flows.flows.Goals as goal

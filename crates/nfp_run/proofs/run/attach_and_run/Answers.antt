@@ -5,7 +5,7 @@ use Rattle.capture_run.specs.ChainServiceProofs.{chains_of}
 use Rattle.nfp_run.specs.Closing.{Left}
 use Rattle.nfp_run.specs.Reading.{opened_led}
 use Rattle.nfp_run.proofs.OtherSlots.{out_is_not_report, report_is_not_out, capture_is_not_out, capture_is_not_report}
-use Rattle.nfp_run.specs.declared.read.Opened.TheVariants.{Pcap, Ng}
+use Rattle.call_ending.specs.declared.read.Opened.TheVariants.{Pcap, Ng}
 use Rattle.nfp_run.proofs.WrittenSlots.{behind_run, left_by_run, out_unattached, report_unattached}
 use Rattle.nfp_run.proofs.run.attach_and_run.Goals as goal
 

@@ -5,7 +5,7 @@ use Rattle.command_words.specs.Named.{names_seen}
 use Rattle.capture_run.specs.ChainServiceProofs.{chains_of}
 use Rattle.nfp_run.specs.Reading.{opened_led}
 use Rattle.nfp_run.specs.Answers.{RunAttaches}
-use Rattle.nfp_run.specs.Closing.{outcome_seen}
+use Rattle.call_ending.specs.Endings.{outcome_seen}
 use Rattle.nfp_run.proofs.Attaching.{refused_attaches, run_attaches}
 use Rattle.nfp_run.proofs.EndedRuns.{IsLed, opens_so, run_ends, run_prefixes, run_write_faults}
 use Rattle.nfp_run.proofs.ReadToEnd.{ended_drained, refused_early, texts_early, texts_to}

@@ -3,8 +3,8 @@ use Rattle.std.specs.Str.{bytes_eq}
 use Rattle.nfp_outside.specs.declared.slot.Slot.TheVariants.{Capture}
 use Rattle.capture_bytes.specs.Filling.{unread}
 use Rattle.pcapng_io.specs.Blocks.{next_of, start}
-use Rattle.nfp_run.proofs.Opening.{of_made}
-use Rattle.nfp_run.proofs.read.open_by_format.Goals as goal
+use Rattle.call_ending.proofs.Opening.{of_made}
+use Rattle.call_ending.proofs.read.open_by_format.Goals as goal
 
 pub returns-in-Err-Ng-clause-err : goal.returns-in-Err-Ng-clause-err
 returns-in-Err-Ng-clause-err g c = (

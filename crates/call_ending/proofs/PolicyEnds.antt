@@ -10,12 +10,12 @@ use Rattle.policy_judge.specs.declared.fault.JudgeFault.TheVariants as faults
 use Rattle.policy_judge.specs.declared.fault.PolicyFault.TheVariants as policies
 use Rattle.policy_judge.specs.Judging.{judged, judged_text, told, Judges}
 use Rattle.policy_judge.specs.Lines.{too_long_line}
-use Rattle.nfp_run.specs.declared.ending.Ending.{Ending}
-use Rattle.nfp_run.specs.declared.read.Unread.{Unread}
-use Rattle.nfp_run.specs.declared.read.Unread.TheVariants.{TooLong, Failed, NoMemory}
-use Rattle.nfp_run.specs.Reading.{IsUnread, UnreadEnds, refused_by, EndsAtPolicy}
-use Rattle.nfp_run.specs.Answers.{OfBytes}
-use Rattle.nfp_run.proofs.TextsTold.{of_read}
+use Rattle.call_ending.specs.declared.ending.Ending.{Ending}
+use Rattle.call_ending.specs.declared.read.Unread.{Unread}
+use Rattle.call_ending.specs.declared.read.Unread.TheVariants.{TooLong, Failed, NoMemory}
+use Rattle.call_ending.specs.Reading.{IsUnread, UnreadEnds, refused_by, EndsAtPolicy}
+use Rattle.call_ending.specs.Told.{OfBytes}
+use Rattle.call_ending.proofs.ReadWhole.{of_read}
 
 judged_long : (bytes : List ℕ) → 1048576 < length bytes → judged bytes ≡ Err (told policies.TooLong too_long_line)
 unfolding judged

@@ -10,12 +10,12 @@ use Rattle.pcap_io.specs.Reader as pcap
 use Rattle.pcap_io.specs.declared.capture.CaptureHead.{CaptureHead}
 use Rattle.pcapng_io.specs.Blocks.{next_of, start}
 use Rattle.capture_items.specs.Putting.{risen_earlier}
-use Rattle.nfp_run.specs.declared.outcome.Outcome.{Outcome}
-use Rattle.nfp_run.specs.declared.outcome.Outcome.TheVariants.{Done, Usage, Policy, Graph, Capture, CaptureNg, ReadFault, WriteFault, OutOfMemory}
-use Rattle.nfp_run.specs.declared.read.Opened.{Opened}
-use Rattle.nfp_run.specs.declared.read.Opened.TheVariants.{Pcap}
-use Rattle.nfp_run.specs.Due.{is_ng, is_ng_front}
-use Rattle.nfp_run.specs.Reading.{IsOfFormat, LeavesAll, Opens, OpensBehind, RefusedOpening, RefusesBehind}
+use Rattle.call_ending.specs.declared.outcome.Outcome.{Outcome}
+use Rattle.call_ending.specs.declared.outcome.Outcome.TheVariants.{Done, Usage, Policy, Graph, Capture, CaptureNg, ReadFault, WriteFault, OutOfMemory}
+use Rattle.call_ending.specs.declared.read.Opened.{Opened}
+use Rattle.call_ending.specs.declared.read.Opened.TheVariants.{Pcap}
+use Rattle.call_ending.specs.Told.{is_ng, is_ng_front}
+use Rattle.call_ending.specs.Reading.{IsOfFormat, LeavesAll, Opens, OpensBehind, RefusedOpening, RefusesBehind}
 
 -- the first bytes that were read of a capture
 pub record IsFront (first bytes rest : List ℕ) : Type 0 where

@@ -1,8 +1,8 @@
 use Rattle.std.proofs.Common.{◌≤◌, ◌∙◌, refl, arith}
 use Rattle.std.proofs.lemmas.Result.{IfErr-weaker, IfOk-weaker}
 use Rattle.nfp_outside.specs.declared.slot.Slot.TheVariants.{Capture}
-use Rattle.nfp_run.proofs.Opening.{opens_by, refused_by_front}
-use Rattle.nfp_run.proofs.read.open_capture.Goals as goal
+use Rattle.call_ending.proofs.Opening.{opens_by, refused_by_front}
+use Rattle.call_ending.proofs.read.open_capture.Goals as goal
 
 pub returns-in-Ok-fill-clause-ok : goal.returns-in-Ok-fill-clause-ok
 returns-in-Ok-fill-clause-ok g c = IfOk-weaker c.open_by_format.result _ _

@@ -1,7 +1,7 @@
 //! How a call of the program ends.
 ghost use Rattle.std.specs.Prelude.{◌≡◌};
-ghost use Rattle.nfp_run.specs.declared.outcome.Outcome.TheVariants.{OutOfMemory};
-ghost use Rattle.nfp_run.specs.Status.{status_of};
+ghost use Rattle.call_ending.specs.declared.outcome.Outcome.TheVariants.{OutOfMemory};
+ghost use Rattle.call_ending.specs.Status.{status_of};
 
 use capture_items::RunFault;
 use command_words::UsageFault;
@@ -56,7 +56,7 @@ impl Outcome {
 }
 
 impl From<RunFault> for Outcome {
-    ghost use Rattle.nfp_run.specs.Broken.{broken_by};
+    ghost use Rattle.call_ending.specs.Broken.{broken_by};
 
     ghost from_gives = { λ fault outcome. outcome ≡ broken_by fault };
 

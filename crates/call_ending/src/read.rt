@@ -7,9 +7,9 @@ ghost use Rattle.policy_judge.specs.Judging.{judged};
 ghost use Rattle.policy_judge.specs.Making.{functions_made};
 ghost use Rattle.policy_judge.specs.Orders.{IsOrdered};
 ghost use Rattle.policy_judge.specs.Settings.{IsSettled};
-ghost use Rattle.nfp_run.specs.Answers.{IsReadWhole};
-ghost use Rattle.nfp_run.specs.Reading.{IsUnread, UnreadEnds, refused_by, EndsAtPolicy, Opens, OpensBehind, RefusedOpening, RefusesBehind, unread_capture};
-ghost use Rattle.nfp_run.specs.FlowsRan.{OpensClassic, RefusedClassic};
+ghost use Rattle.call_ending.specs.Told.{IsReadWhole};
+ghost use Rattle.call_ending.specs.Reading.{IsUnread, UnreadEnds, refused_by, EndsAtPolicy, Opens, OpensBehind, RefusedOpening, RefusesBehind, unread_capture};
+ghost use Rattle.call_ending.specs.Reading.{OpensClassic, RefusedClassic};
 
 use crate::ending::Ending;
 use crate::outcome::Outcome;
@@ -147,7 +147,7 @@ fn open_by_format<D: Desk>(alloc: Global, desk: &mut D, first: &[u8]) -> Result<
 }
 
 /// Attaches a slot that holds a text, and reads its bytes.
-#[tactic(auto, using(crate::proofs::ReadToEnd::all_read))]
+#[tactic(auto, using(crate::proofs::ReadWhole::all_read))]
 pub fn read_bytes<D: Desk>(
     alloc: Global,
     desk: &mut D,

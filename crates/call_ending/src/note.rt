@@ -1,8 +1,8 @@
 //! The one line that is put into Note for each outcome.
 ghost use Rattle.std.specs.Prelude.{◌≡◌, ◌≢◌, ◌≤◌, IfOk};
 ghost use Rattle.nfp_outside.specs.declared.slot.Slot.{Slot};
-ghost use Rattle.nfp_run.specs.Notes.{number_text, usage_text, done_text, slot_word, read_fault_text, write_fault_text};
-ghost use Rattle.nfp_run.specs.Closing.{outcome_seen, stop_text, text_of, untold, CountsWithin, Notes};
+ghost use Rattle.call_ending.specs.Notes.{number_text, usage_text, done_text, slot_word, read_fault_text, write_fault_text};
+ghost use Rattle.call_ending.specs.Endings.{outcome_seen, stop_text, text_of, untold, CountsWithin, Notes};
 
 use crate::ending::{Ending, GraphRefusal};
 use crate::outcome::Outcome;

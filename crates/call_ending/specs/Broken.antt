@@ -2,8 +2,8 @@
 use Rattle.nfp_outside.specs.declared.slot.Slot.TheVariants.{Capture}
 use Rattle.capture_items.specs.declared.fault.RunFault.{RunFault}
 use Rattle.capture_items.specs.declared.fault.RunFault.TheVariants as faults
-use Rattle.nfp_run.specs.declared.outcome.Outcome.{Outcome}
-use Rattle.nfp_run.specs.declared.outcome.Outcome.TheVariants.{ReadFault, WriteFault, OutOfMemory}
+use Rattle.call_ending.specs.declared.outcome.Outcome.{Outcome}
+use Rattle.call_ending.specs.declared.outcome.Outcome.TheVariants.{ReadFault, WriteFault, OutOfMemory}
 
 abbrev pub broken_by : RunFault → Outcome
 broken_by faults.ReadFault = ReadFault Capture
