@@ -1,0 +1,3 @@
+pub mod DeclaredLines
+pub mod LinesOf
+pub mod Roles
