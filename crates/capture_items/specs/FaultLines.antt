@@ -1,5 +1,5 @@
--- Believed: the line of a capture's first fault, by its format.
-use Rattle.std.specs.Prelude.{ℕ, List, [], ◌∷◌, codes}
+-- Believed: the line of a capture's first fault, by its format, and the last line of a report.
+use Rattle.std.specs.Prelude.{ℕ, List, [], ◌∷◌, ◌++◌, codes, Option, Some, None}
 use Rattle.std.specs.Fmt.{decimal}
 use Rattle.text_lines.specs.Texts.{joined}
 use Rattle.pcap_io.specs.declared.capture.CaptureFault.{CaptureFault}
@@ -34,3 +34,8 @@ ng_text ng.TooManyBlocks = codes "capture: too many blocks\n"
 abbrev pub fault_text : FormatFault → List ℕ
 fault_text (Pcap fault) = capture_text fault
 fault_text (Ng fault) = ng_text fault
+
+-- the last line: the end, or the fault at which the capture ends
+unfoldable pub last_line : Option FormatFault → List ℕ
+last_line None = codes "end\n"
+last_line (Some fault) = codes "fault " ++ fault_text fault

@@ -22,10 +22,10 @@ mod write;
 
 pub use fault::{FormatFault, RunFault, SourceFault};
 pub use given::Given;
-pub use lines::{capture_line, fault_line, ng_line};
+pub use lines::{capture_line, fault_line, ng_line, push_last_line};
 pub use ng::{Beside, NgSource, NgWriter, OtherBlock};
 pub use pcap::NoBlock;
 pub use sink::Sink;
 pub use source::Source;
-pub use totals::{Totals, totals_line};
+pub use totals::{Totals, push_totals_line, totals_line};
 pub use write::{put_block, put_packet, put_text};

@@ -1,15 +1,15 @@
 //! The line of a capture's first fault.
-ghost use Rattle.std.specs.Prelude.{◌≡◌, ◌∷◌, [], IfOk, codes};
+ghost use Rattle.std.specs.Prelude.{◌≡◌, ◌∷◌, ◌++◌, [], IfOk, OnOk, codes};
 ghost use Rattle.std.specs.Fmt.{decimal};
 ghost use Rattle.text_lines.specs.Texts.{joined};
-ghost use Rattle.capture_items.specs.FaultLines.{capture_text, fault_text, ng_text};
+ghost use Rattle.capture_items.specs.FaultLines.{capture_text, fault_text, last_line, ng_text};
 
 use crate::fault::FormatFault;
 use pcap_io::CaptureFault;
 use pcapng_io::NgFault;
 use std::alloc::{AllocError, Global};
 use text_lines::Piece::{Number, Text};
-use text_lines::join;
+use text_lines::{join, push_pieces};
 
 /// The line of a capture's first fault.
 pub fn fault_line(alloc: Global, fault: FormatFault) -> Result<Vec<u8>, AllocError>
@@ -86,6 +86,24 @@ pub fn ng_line(alloc: Global, fault: NgFault) -> Result<Vec<u8>, AllocError>
             Vec::from_slice(alloc, b"capture: too many records\n".as_slice())
         }
         NgFault::TooManyBlocks => Vec::from_slice(alloc, b"capture: too many blocks\n".as_slice()),
+    }
+}
+
+/// Adds the last line: the end, or the capture's fault.
+#[tactic(auto, unfolding(crate::specs::FaultLines::last_line))]
+pub fn push_last_line(
+    alloc: Global,
+    text: &mut Vec<u8>,
+    fault: Option<FormatFault>,
+) -> Result<(), AllocError>
+    ensures { OnOk result (text.new.items ≡ text.old.items ++ last_line fault) }
+{
+    match fault {
+        None => text.extend_from_slice(b"end\n".as_slice()),
+        Some(fault) => {
+            let line = fault_line(alloc, fault)?;
+            push_pieces(alloc, text, &[Text(b"fault "), Text(&line)])
+        }
     }
 }
 

@@ -1,5 +1,5 @@
 //! The totals of a capture, and their line.
-ghost use Rattle.std.specs.Prelude.{◌≡◌, ◌≤◌, IfOk};
+ghost use Rattle.std.specs.Prelude.{◌≡◌, ◌≤◌, ◌++◌, IfOk, OnOk};
 ghost use Rattle.capture_items.specs.Totals.{total_line};
 
 use std::alloc::{AllocError, Global};
@@ -31,4 +31,13 @@ pub fn totals_line(alloc: Global, totals: Totals) -> Result<Vec<u8>, AllocError>
             Text(b"\n"),
         ],
     )
+}
+
+/// Adds the line of the totals.
+pub fn push_totals_line(alloc: Global, text: &mut Vec<u8>, totals: Totals) -> Result<(), AllocError>
+    requires { totals.dropped ≤ totals.records }
+    ensures { OnOk result (text.new.items ≡ text.old.items ++ total_line totals.records totals.dropped) }
+{
+    let line = totals_line(alloc, totals)?;
+    text.extend_from_slice(&line)
 }

@@ -22,7 +22,7 @@ use Rattle.policy_text.specs.declared.policy.FunctionDecl.{FunctionDecl}
 use Rattle.text_lines.specs.Texts.{joined}
 use Rattle.burst_walk.specs.ChainService.{Chains, NamedFunction, named_behaviour, named_lines}
 use Rattle.burst_walk.specs.Fates.{all_classed, chains_behind, fates_of}
-use Rattle.capture_items.specs.FaultLines.{fault_text}
+use Rattle.capture_items.specs.FaultLines.{last_line}
 use Rattle.capture_items.specs.Totals.{total_line}
 use Rattle.capture_items.specs.declared.fault.FormatFault.{FormatFault}
 
@@ -92,11 +92,6 @@ function_lines chain functions f = function_text chain f.name (kind_name f.kind)
 -- those of a chain's functions, as they are declared
 unfoldable pub chain_lines : ChainPolicy → List NamedFunction → List ℕ
 chain_lines chain functions = flat_map (function_lines chain.name functions) chain.functions
-
--- the last line: the end, or the fault at which the capture ends
-unfoldable pub last_line : Option FormatFault → List ℕ
-last_line None = codes "end\n"
-last_line (Some fault) = codes "fault " ++ fault_text fault
 
 -- what follows the lines of the dropped packets, with the pieces in the state in which the last packet left them
 unfoldable pub summary : Chains → ℕ → ℕ → (ℕ → Field → ℕ) → Option FormatFault → List ℕ

@@ -4,7 +4,8 @@ use Rattle.std.specs.List.{flat_map}
 use Rattle.packet_version.specs.Tallies.{count_of}
 use Rattle.piece_walk.specs.Pieces.{functions_in}
 use Rattle.burst_walk.specs.ChainServiceProofs.{ServiceChain, pieces_in}
-use Rattle.capture_report.specs.Report.{ChainNames, chain_lines, copies_lines, last_line}
+use Rattle.capture_report.specs.Report.{ChainNames, chain_lines, copies_lines}
+use Rattle.capture_items.specs.FaultLines.{last_line}
 use Rattle.capture_items.specs.Totals.{total_line}
 use Rattle.capture_report.specs.declared.ended.Ended.{Ended}
 

@@ -1,16 +1,14 @@
 //! The texts of the report.
-ghost use Rattle.std.specs.Prelude.{◌≡◌, ◌≤◌, ◌<◌, ◌+◌, ◌^◌, ◌++◌, IfOk, OnOk, Some, length, map};
+ghost use Rattle.std.specs.Prelude.{◌≡◌, ◌<◌, ◌+◌, ◌^◌, ◌++◌, IfOk, OnOk, Some, length, map};
 ghost use Rattle.packet_version.specs.Tallies.{count_of};
 ghost use Rattle.burst_walk.specs.ChainServiceProofs.{chains_of};
 ghost use Rattle.burst_walk.specs.Leading.{all_ended, ended};
 ghost use Rattle.action_profile.specs.Kinds.{kind_name};
-ghost use Rattle.capture_report.specs.Report.{dropped_by, drop_text, drop_line, drop_lines, names_among, copies_text, copies_line, copies_lines, function_text, last_line};
-ghost use Rattle.capture_items.specs.Totals.{total_line};
+ghost use Rattle.capture_report.specs.Report.{dropped_by, drop_text, drop_line, drop_lines, names_among, copies_text, copies_line, copies_lines, function_text};
 ghost use Rattle.capture_report.specs.Telling.{names_in};
 
 use action_profile::all_fields;
 use burst_walk::ServiceChain;
-use capture_items::{FormatFault, Totals, fault_line, totals_line};
 use chain_walk::Fate;
 use classifier::Item;
 use packet_fields::Field;
@@ -135,33 +133,6 @@ fn push_drop_text<'a>(
             Text(b"\n"),
         ],
     )
-}
-
-/// Adds the line of the totals.
-pub fn push_totals_line(alloc: Global, text: &mut Vec<u8>, totals: Totals) -> Result<(), AllocError>
-    requires { totals.dropped ≤ totals.records }
-    ensures { OnOk result (text.new.items ≡ text.old.items ++ total_line totals.records totals.dropped) }
-{
-    let line = totals_line(alloc, totals)?;
-    text.extend_from_slice(&line)
-}
-
-/// Adds the last line: the end, or the capture's fault.
-#[tactic(auto, unfolding(crate::specs::Report::last_line))]
-pub fn push_last_line(
-    alloc: Global,
-    text: &mut Vec<u8>,
-    fault: Option<FormatFault>,
-) -> Result<(), AllocError>
-    ensures { OnOk result (text.new.items ≡ text.old.items ++ last_line fault) }
-{
-    match fault {
-        None => text.extend_from_slice(b"end\n".as_slice()),
-        Some(fault) => {
-            let line = fault_line(alloc, fault)?;
-            push_pieces(alloc, text, &[Text(b"fault "), Text(&line)])
-        }
-    }
 }
 
 /// Adds the line of each field of which copies were made for the packets of the chain with this name.

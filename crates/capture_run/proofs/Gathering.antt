@@ -15,7 +15,8 @@ use Rattle.policy_text.specs.declared.policy.ChainPolicy.{ChainPolicy}
 use Rattle.policy_text.specs.declared.policy.FunctionDecl.{FunctionDecl}
 use Rattle.capture_report.specs.ChainService.{named_lines}
 use Rattle.capture_report.specs.ChainServiceProofs.{NamedFunction, ServiceChain, pieces_in}
-use Rattle.capture_report.specs.Report.{chain_lines, copies_lines, function_lines, last_line, state_text}
+use Rattle.capture_report.specs.Report.{chain_lines, copies_lines, function_lines, state_text}
+use Rattle.capture_items.specs.FaultLines.{last_line}
 use Rattle.capture_items.specs.Totals.{total_line}
 use Rattle.capture_report.specs.Telling.{told_text}
 use Rattle.capture_report.specs.declared.ended.Ended.{Ended}

@@ -11,7 +11,8 @@ use Rattle.capture_report.specs.SegmentRun.{copies_through}
 use Rattle.capture_report.specs.ChainService.{named_behaviour}
 use Rattle.capture_report.specs.ChainServiceProofs.{IsOpeningChain, NamedFunction, ServiceChain, chains_of, pieces_in}
 use Rattle.capture_report.specs.BurstWalkProofs.{LeadsChain, LeadsEach}
-use Rattle.capture_report.specs.Report.{chain_lines, copies_due, copies_lines, last_line, summary}
+use Rattle.capture_report.specs.Report.{chain_lines, copies_due, copies_lines, summary}
+use Rattle.capture_items.specs.FaultLines.{last_line}
 use Rattle.capture_items.specs.Totals.{total_line}
 use Rattle.capture_report.specs.Telling.{told_text}
 use Rattle.capture_report.specs.declared.ended.Ended.{Ended}

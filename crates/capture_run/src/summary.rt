@@ -12,10 +12,10 @@ ghost use Rattle.capture_items.specs.Totals.{total_line};
 ghost use Rattle.capture_report.specs.Telling.{told_text};
 ghost use Rattle.capture_items.specs.Slots.{Breaks, Gathers, Puts};
 
-use capture_items::{RunFault, Totals, put_text};
+use capture_items::{RunFault, Totals, push_last_line, push_totals_line, put_text};
 use capture_report::{
     Ended, NamedFunction, Piece, ServiceChain, function_named, push_copies_lines,
-    push_function_line, push_last_line, push_totals_line,
+    push_function_line,
 };
 use nfp_outside::Desk;
 use packet_function::Function;

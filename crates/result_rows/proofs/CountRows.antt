@@ -41,7 +41,8 @@ use Rattle.action_profile.specs.Modes.{mode_of, copies}
 use Rattle.graph_compile.specs.Parts.{branch_reads, branch_writes, touch_of, stage_parts}
 use Rattle.graph_compile.specs.Stages.{is_forbidden, holds_back, placed, graph_of}
 use Rattle.graph_run.specs.Counting.{copies_made}
-use Rattle.capture_report.specs.Report.{chain_lines, copies_due, copies_lines, drop_lines, drop_text, function_text, last_line, report_bytes, summary}
+use Rattle.capture_report.specs.Report.{chain_lines, copies_due, copies_lines, drop_lines, drop_text, function_text, report_bytes, summary}
+use Rattle.capture_items.specs.FaultLines.{last_line}
 use Rattle.capture_items.specs.Totals.{total_line}
 use Rattle.nf_observe.specs.LimiterLines.{line_of as limiter_line_of}
 use Rattle.plan_text.specs.Plan.{branch_text, chain_plan, part_line, pieces_text, stage_text}

@@ -35,7 +35,8 @@ use Rattle.segment_run.specs.Counting.{copies_through}
 use Rattle.graph_compile.specs.Cutting.{cut as cut_chain}
 use Rattle.burst_walk.specs.Fates.{chains_behind, fates_of}
 use Rattle.capture_run.specs.EmittedNg.{ng_out_bytes}
-use Rattle.capture_report.specs.Report.{chain_lines, copies_due, copies_lines, drop_lines, drop_text, function_text, last_line, report_bytes, summary}
+use Rattle.capture_report.specs.Report.{chain_lines, copies_due, copies_lines, drop_lines, drop_text, function_text, report_bytes, summary}
+use Rattle.capture_items.specs.FaultLines.{last_line}
 use Rattle.capture_items.specs.Totals.{total_line}
 use Rattle.capture_items.specs.FaultLines.{ng_text}
 use Rattle.call_ending.specs.Notes.{done_text}

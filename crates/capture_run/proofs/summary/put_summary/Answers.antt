@@ -1,5 +1,5 @@
 use Rattle.std.proofs.Common.{◌≡◌, ◌∙◌, [], ◌++◌, append_assoc, subst}
-use Rattle.capture_report.specs.Report.{last_line}
+use Rattle.capture_items.specs.FaultLines.{last_line}
 use Rattle.capture_report.specs.Telling.{told_text}
 use Rattle.capture_items.specs.Slots.{Breaks, Puts}
 use Rattle.capture_items.specs.declared.fault.RunFault.TheVariants.{OutOfMemory}
