@@ -1,0 +1,4 @@
+pub mod AsWalked
+pub mod Causes
+pub mod Dropping
+pub mod Following
