@@ -16,7 +16,7 @@ use packet_version::Tally;
 use policy_text::FunctionDecl;
 use std::alloc::{AllocError, Global};
 use text_lines::Piece::{Number, Text};
-use text_lines::push_pieces;
+use text_lines::{join, push_pieces};
 
 /// The report's first line.
 pub const TITLE: &[u8] = b"nfp report 1\n";

@@ -1,4 +1,4 @@
-//! Runs bursts of packets through the graph of a chain.
+//! Packets go one after another through the graph of a chain, on the caller's thread.
 //!
 //! A [`Running`] has the functions of a chain, in the states in which the last packet left them, and a graph that is
 //! lawful for their profiles. [`run_plain`] runs the packets of a burst through it on one thread: each is split into

@@ -1,4 +1,4 @@
-//! Runs bursts of packets through the graph of a chain, whose dealers, branches and mergers are nodes.
+//! A burst goes through the graph of a chain whose dealers, branches and mergers are nodes, at work side by side.
 //!
 //! [`run_piped`] and [`run_joined`] do what `run_plain` of `graph_run` does, and have the same contract: the packets
 //! end as those that walk through the chain one after another, and so do the functions; the tally rises by the same

@@ -1,4 +1,4 @@
-//! Runs bursts of packets through the pieces of a chain.
+//! A chain runs piece by piece: packets go through the graph of a piece, or are rewritten whole.
 //!
 //! Some functions rewrite a packet whole, so that nothing can run beside them: a chain is cut before and after each of
 //! them. [`run_pieces`] runs a burst through the [`Piece`]s one after another: through the graph of a piece
