@@ -1,18 +1,17 @@
 -- A translation and a balancer do what the lines say that decide.
-use Rattle.std.proofs.Common.{◌≡◌, ◌<◌, ◌≤◌, ◌%◌, ◌∙◌, ℕ, zero, suc, List, [], ◌∷◌, length, Bool, true, false, Option, Some, None, is_some, slice_get, slice_index_or, refl, ap, arith}
+use Rattle.std.proofs.Common.{◌≡◌, ◌<◌, ◌%◌, ℕ, List, [], ◌∷◌, length, Bool, true, false, Option, Some, None, is_some, refl, arith}
 use Rattle.std.specs.Prelude.{if◌then◌else◌, nat_le, ◌==◌}
 use Rattle.std.proofs.lemmas.Nat.{mod_below}
 use Rattle.packet_fields.specs.declared.field.Field.{Field}
 use Rattle.packet_fields.specs.declared.field.Field.TheVariants.{LinkDst, LinkSrc, Tag, Tos, Ttl, SrcIp, DstIp, SrcPort, DstPort, Payload}
 use Rattle.policy_text.specs.Meeting.{is_within}
 use Rattle.packet_function.specs.declared.deciding.DecidingLine.TheVariants.{Rule}
-use Rattle.nf_translate.specs.declared.balancer.BalancerSettings.{BalancerSettings}
 use Rattle.nf_translate.specs.declared.client.Client.{Client}
 use Rattle.nf_translate.specs.declared.endpoint.Endpoint.{Endpoint}
 use Rattle.nf_translate.specs.Addresses.{ip_address_bytes}
 use Rattle.nf_translate.specs.Balancers.{PlainBalancer, backend_at, balanced, balanced_by, in_place_of, to_address}
 use Rattle.nf_translate.specs.Clients.{place_of as place_of_client}
-use Rattle.nf_translate.specs.Deciding.{GoesOut, ComesIn, DoesAs, IsSentTo, WritesAs}
+use Rattle.nf_translate.specs.Deciding.{DoesAs, WritesAs}
 use Rattle.nf_translate.specs.Endpoints.{place_of}
 use Rattle.nf_translate.specs.Nats.{PlainNat, public_port, port_at, mapped, leaving, coming, passed, out_by, in_by, translated, translated_by}
 use Rattle.nf_translate.proofs.Standing.{item_at}
@@ -59,7 +58,8 @@ none_written (Some bytes) new is = by (length new == length bytes) is
     by true is = absurd cc
     by false is = refl
 
-pub writes_as : (b : PlainBalancer) (destination : Option (List ℕ)) (flow : Option Client) → 0 < length b.settings.backends → WritesAs b.settings (balanced_by b destination flow) (balanced b destination flow).written
+pub writes_as : (b : PlainBalancer) (destination : Option (List ℕ)) (flow : Option Client) → 0 < length b.settings.backends →
+    WritesAs b.settings (balanced_by b destination flow) (balanced b destination flow).written
 writes_as b destination None some = λ f. refl
 writes_as b destination (Some flow) some = by (is_some (in_place_of destination bytes)) refl
   where

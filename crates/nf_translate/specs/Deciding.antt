@@ -5,7 +5,7 @@ use Rattle.packet_fields.specs.declared.field.Field.{Field}
 use Rattle.packet_fields.specs.declared.field.Field.TheVariants.{DstIp}
 use Rattle.chain_walk.specs.Shown.{Values}
 use Rattle.chain_walk.specs.Step.{Step}
-use Rattle.chain_walk.specs.declared.verdict.Verdict.TheVariants.{Pass, Drop}
+use Rattle.chain_walk.specs.declared.verdict.Verdict.TheVariants.{Pass}
 use Rattle.packet_function.specs.declared.deciding.DecidingLine.{DecidingLine}
 use Rattle.packet_function.specs.declared.deciding.DecidingLine.TheVariants as deciding
 use Rattle.packet_function.specs.declared.deciding.SettingKey.TheVariants as keys

@@ -209,7 +209,8 @@ drop_once : (n : PlainNat) (ends : Option (Endpoint × Endpoint)) → is_drop (t
 drop_once n None drops = absurd (true≢false (sym drops))
 drop_once n (Some ends) drops = by (is_within n.settings.inside n.settings.inside_bits ends.0.address) (ends.1.address == n.settings.public_address) drops
   where
-    by : (inside public : Bool) → is_drop (if inside then leaving n ends.0 (port_at n.settings (place_of n.mappings ends.0)) else if public then coming n (mapped n ends.1) else passed n).verdict ≡ true →
+    by : (inside public : Bool) →
+        is_drop (if inside then leaving n ends.0 (port_at n.settings (place_of n.mappings ends.0)) else if public then coming n (mapped n ends.1) else passed n).verdict ≡ true →
         length (if inside then out_by (port_at n.settings (place_of n.mappings ends.0)) ∷ [] else if public then in_by (mapped n ends.1) ∷ [] else []) ≡ 1
     by true public drops = refl
     by false true drops = refl
