@@ -20,7 +20,7 @@ port_view p = record { name = option_map string_bytes p.name; bytes = None; weig
 abbrev pub stream_view : ℕ → SlotView
 stream_view faults = record { name = None; bytes = None; weight = None; faults = faults }
 
--- the bytes that are left in a file to read, if it tells them
+-- the bytes that are left in a file to read, if it shows them
 abbrev pub left_in : {F A : Type 0} → (F → Option (List ℕ)) → Port (BufReader F A) → Option (List ℕ)
 left_in remaining p = option_and_then (reader_remaining remaining) p.file
 
@@ -28,7 +28,7 @@ left_in remaining p = option_and_then (reader_remaining remaining) p.file
 abbrev pub left_at : {F A : Type 0} → (F → Option (List ℕ)) → Port (BufReader F A) → Port (BufReader F A) → Port (BufReader F A) → Slot → Option (List ℕ)
 left_at remaining policy capture graph = at_slot (left_in remaining policy) (left_in remaining capture) None None None (left_in remaining graph)
 
--- the account of a file to write, by what the file tells of itself
+-- the account of a file to write, by what the file shows of itself
 abbrev pub account_of : {F A : Type 0} → (F → Option (List ℕ)) → BufWriter (Target F) A → Account
 account_of contents w = record { holds = contents (writer_inner w).file; is_emptied = (writer_inner w).is_emptied; gathered = writer_buffer w }
 
@@ -36,7 +36,7 @@ account_of contents w = record { holds = contents (writer_inner w).file; is_empt
 abbrev pub account : {F A : Type 0} → (F → Option (List ℕ)) → Port (BufWriter (Target F) A) → Option Account
 account contents p = option_map (account_of contents) p.file
 
--- the bytes that were put into the file of a slot, if the file tells them
+-- the bytes that were put into the file of a slot, if the file shows them
 abbrev pub bytes_put : Option Account → Option (List ℕ)
 bytes_put a = option_and_then put_in a
 

@@ -34,7 +34,7 @@ const GATHERED: usize = 65536;
 /// standard error leads, or to one that another run has locked. Both are locked as soon as they are open, and emptied
 /// once Report is attached. If Report is refused, the file of Out is removed if it was created for it. If Report is never
 /// attached, Out is emptied before it takes its first bytes, and at the latest before Note takes any, unless a call
-/// failed. Files are told apart by device and inode number. If the system has no such numbers, and for character
+/// failed. Files are compared by device and inode number. If the system has no such numbers, and for character
 /// devices, no two files count as the same.
 ///
 /// A file to read isn't attached if standard output or standard error leads to it. If standard output does, Note takes
@@ -330,7 +330,7 @@ impl<S: System + Drop> Desk for FileDesk<S> {
         ensures no_want { IsErrOf result DeskFault.NoMemory → ⊥ }
         ensures counted { let slots = ⟦<FileDesk<S> as Desk>⟧.slots in
             CountsFailure (slots self.old slot).faults (slots self.new slot).faults result }
-        ensures told { ReadConsumes
+        ensures consumed { ReadConsumes
             (left_at S.Input.remaining self.old.policy self.old.capture self.old.graph slot)
             (left_at S.Input.remaining self.new.policy self.new.capture self.new.graph slot) result into.new }
         ensures others_left { (s : Slot) → s ≢ slot →

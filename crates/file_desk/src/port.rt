@@ -84,7 +84,7 @@ impl<F: Read + Drop> Port<BufReader<F>> {
         ensures cause { HasCause (port_view self.old) (port_view self.new) result }
         ensures no_want { IsErrOf result DeskFault.NoMemory → ⊥ }
         ensures counted { CountsFailure self.old.faults self.new.faults result }
-        ensures told { ReadConsumes (left_in F.remaining self.old) (left_in F.remaining self.new) result into.new }
+        ensures consumed { ReadConsumes (left_in F.remaining self.old) (left_in F.remaining self.new) result into.new }
     {
         match &mut self.file {
             Some(file) => match file.read(into) {

@@ -39,7 +39,7 @@ pub trait System {
     fn alloc(&self) -> Global;
 }
 
-/// A file that is open to be read. `remaining` are the bytes that are left in it, if it tells them.
+/// A file that is open to be read. `remaining` are the bytes that are left in it, if it shows them.
 pub trait InputFile: Read {
     /// The identity of the file, if the system showed it.
     ghost known_as: { Self → Option Identity };
@@ -49,7 +49,7 @@ pub trait InputFile: Read {
         ensures { result ≡ known_as self.now };
 }
 
-/// A file that is open to be written. `contents` are the bytes that it holds, if it tells them.
+/// A file that is open to be written. `contents` are the bytes that it holds, if it shows them.
 pub trait OutputFile: Write {
     /// The identity of the file, if the system showed it.
     ghost known_as: { Self → Option Identity };
