@@ -1,5 +1,5 @@
 -- For proofs: what a slot over a file shows: its name and its count of faults, and no bytes; and the account of its file.
-use Rattle.std.specs.Prelude.{ℕ, ◌≡◌, List, [], Option, Some, None, IfSome, option_and_then}
+use Rattle.std.specs.Prelude.{ℕ, ◌≡◌, List, [], Bool, true, Option, Some, None, IfSome, option_and_then}
 use Rattle.std.specs.Option.{option_map}
 use Rattle.std.specs.String.{string_bytes}
 use Rattle.std.specs.Io.Buffered.{writer_inner, writer_buffer, reader_inner, reader_remaining}
@@ -50,6 +50,10 @@ output_identity {F = F} {A = A} known_as p = option_and_then (λ (w : BufWriter 
 -- nothing is gathered for a slot, unless a call on it has failed
 abbrev pub IsHandedOn : {F A : Type 0} → (F → Option (List ℕ)) → Port (BufWriter (Target F) A) → Type 0
 IsHandedOn contents p = p.faults ≡ 0 → IfSome (account contents p) (λ a. a.gathered ≡ [])
+
+-- all that the file of a slot holds was brought to the disk, unless a call on the slot has failed
+abbrev pub IsSynced : {F A : Type 0} → (F → Bool) → Port (BufWriter (Target F) A) → Type 0
+IsSynced {F = F} {A = A} on_disk p = p.faults ≡ 0 → IfSome p.file (λ (w : BufWriter (Target F) A). on_disk (writer_inner w).file ≡ true)
 
 -- the file of a slot, if it is attached, holds what was put, and no call on the slot has failed
 pub record IsWritten {F A : Type 0} (contents : F → Option (List ℕ)) (p : Port (BufWriter (Target F) A)) : Type 0 where

@@ -48,6 +48,8 @@ pub struct HostOutput<F> {
     file: F,
     identity: Option<Identity>,
     is_new: bool,
+    // Whether nothing was done to the file since it was brought to the disk.
+    is_synced: bool,
 }
 
 impl<R: Files + Print + AllocGlobal> System for Host<R>
@@ -71,6 +73,7 @@ where
             file,
             identity,
             is_new,
+            is_synced: false,
         })
     }
 
@@ -110,6 +113,7 @@ impl<F: Read> InputFile for HostInput<F> {
 
 impl<F: Write> Write for HostOutput<F> {
     fn write(&mut self, bytes: &[u8]) -> io::Result<usize> {
+        self.is_synced = false;
         self.file.write(bytes)
     }
 
@@ -121,12 +125,26 @@ impl<F: Write> Write for HostOutput<F> {
 impl<F: Write + OpenFile + Lockable> OutputFile for HostOutput<F> {
     ghost known_as = { λ f. f.identity };
 
+    ghost on_disk = { λ f. f.is_synced };
+
     // A file that is already empty is left alone: some file systems write everything to the disk before they close a file
     // that was emptied.
     fn truncate(&mut self) -> io::Result<()> {
         let metadata = self.file.metadata()?;
         if metadata.is_file() && metadata.len() > 0 {
+            self.is_synced = false;
             self.file.set_len(0)?;
+        }
+        Ok(())
+    }
+
+    // The system refuses this for pipes and most devices.
+    fn sync(&mut self) -> io::Result<()> {
+        if !self.is_synced {
+            if self.file.metadata()?.is_file() {
+                self.file.sync_all()?;
+            }
+            self.is_synced = true;
         }
         Ok(())
     }
