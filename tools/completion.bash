@@ -2,7 +2,7 @@
 # bash-completion finds it; without that: source tools/completion.bash
 
 _nfp() {
-    local word=$2 options=' --burst --graph --merge --mergers ' due files=yes
+    local word=$2 options=' --burst --graph --merge --mergers --sync ' due files=yes
     COMPREPLY=()
     if [[ $COMP_CWORD -eq 1 ]]; then
         local first='plan run flows demo help explain report-to-csv report-to-html plan-to-dot plan-to-graph chains-apart send-flows'
@@ -13,7 +13,7 @@ _nfp() {
     case ${COMP_WORDS[1]} in
         plan) due=1 options=' --graph ' ;;
         run) due=4 ;;
-        flows) due=2 options=' --burst --workers ' ;;
+        flows) due=2 options=' --burst --sync --workers ' ;;
         demo) due=2 files= options=' --burst --merge --mergers ' ;;
         explain | report-to-csv | report-to-html | plan-to-dot | plan-to-graph | chains-apart | send-flows)
             compopt -o default
@@ -36,7 +36,7 @@ _nfp() {
             named=yes
         else
             options=${options/" ${each%%=*} "/ }
-            [[ $each == *=* ]] || option=$each
+            [[ $each == *=* || $each == --sync ]] || option=$each
         fi
     done
 

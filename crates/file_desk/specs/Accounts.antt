@@ -10,7 +10,7 @@ Empties (Some bytes) new = new ≡ Some []
 
 -- A file to write by its own account.
 pub record Account : Type 0 where
-  -- what the file holds, if it tells: until it is emptied what it held before, and then what was handed on
+  -- what the file holds, if it shows it: until it is emptied what it held before, and then what was handed on
   pub holds : Option (List ℕ)
   pub is_emptied : Bool
   -- what was put, and isn't handed on yet

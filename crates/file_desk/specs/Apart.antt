@@ -1,4 +1,4 @@
--- Believed: files that are told apart.
+-- Believed: files that are known to be different.
 use Rattle.std.specs.Prelude.{◌≡◌, ◌≢◌, Option, Some}
 use Rattle.file_desk.specs.declared.identity.Identity.{Identity}
 

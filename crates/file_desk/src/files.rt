@@ -6,7 +6,7 @@ ghost use Rattle.nfp_outside.specs.declared.slot.Slot.{Slot};
 ghost use Rattle.nfp_outside.specs.Outside.{is_read, fresh_slot, KeepsSlot, Attaches, Reads, Writes, HasCause, CountsFailure};
 ghost use Rattle.file_desk.specs.Accounts.{IsAsOpened, IsEmpty};
 ghost use Rattle.file_desk.specs.Apart.{Differ};
-ghost use Rattle.file_desk.specs.Desks.{IsAllWritten, IsApart};
+ghost use Rattle.file_desk.specs.Desks.{IsAllSynced, IsAllWritten, IsApart};
 ghost use Rattle.file_desk.specs.Port.{port_view, stream_view, left_at, account, account_of, bytes_put, input_identity, output_identity, IsHandedOn};
 ghost use Rattle.std.specs.String.{string_bytes};
 ghost use Rattle.nfp_outside.specs.Slots.{at_slot};
@@ -34,15 +34,16 @@ const GATHERED: usize = 65536;
 /// standard error leads, or to one that another run has locked. Both are locked as soon as they are open, and emptied
 /// once Report is attached. If Report is refused, the file of Out is removed if it was created for it. If Report is never
 /// attached, Out is emptied before it takes its first bytes, and at the latest before Note takes any, unless a call
-/// failed. Files are told apart by device and inode number. If the system has no such numbers, and for character
+/// failed. Files are compared by device and inode number. If the system has no such numbers, and for character
 /// devices, no two files count as the same.
 ///
 /// A file to read isn't attached if standard output or standard error leads to it. If standard output does, Note takes
 /// nothing.
 ///
 /// Reads are buffered, and what is written to a file is gathered and passed on in pieces of 64 KiB, in the order of the
-/// calls. Before Note takes anything, all gathered bytes are written to their files; if that fails, the write of Note
-/// is refused, and [`FileDesk::hand_on`] returns the slot that lost bytes. Bytes that are still gathered when the desk
+/// calls. Before Note takes anything, all gathered bytes are written to their files, and with [`FileDesk::set_sync`] these
+/// are brought to the disk; if that fails, the write of Note is refused, and [`FileDesk::hand_on`] returns the slot for
+/// which it failed. Bytes that are still gathered when the desk
 /// is dropped are written then, if possible.
 ///
 /// Each failed open, read or write raises the count of its own slot, up to the maximum of `u64`, and no other count. So
@@ -58,6 +59,7 @@ pub struct FileDesk<S: System + Drop> {
     note_faults: u64,
     graph: Port<BufReader<S::Input>>,
     lost: Option<Slot>,
+    syncs: bool,
 }
 
 impl<S: System + Drop> FileDesk<S> {
@@ -75,7 +77,20 @@ impl<S: System + Drop> FileDesk<S> {
             note_faults: 0,
             graph: Port::new(),
             lost: None,
+            syncs: false,
         }
+    }
+
+    /// Whether the files of Out and Report are brought to the disk before Note takes anything. A new desk doesn't do it.
+    #[tactic(auto, unfolding(nfp_outside::specs::Slots::at_slot))]
+    pub fn set_sync(&mut self, syncs: bool)
+        ensures view { let slots = ⟦<FileDesk<S> as Desk>⟧.slots in
+            (s : Slot) → slots self.new s ≡ slots self.old s }
+        ensures syncs { self.new.syncs ≡ syncs }
+        ensures out_same { self.new.out ≡ self.old.out }
+        ensures report_same { self.new.report ≡ self.old.report }
+    {
+        self.syncs = syncs;
     }
 
     // A file to read, with a buffer in front of it. No stream of the program leads to it, so nothing that is printed gets
@@ -179,6 +194,7 @@ impl<S: System + Drop> FileDesk<S> {
         ensures out_put { Keeps (bytes_put (account S.Output.contents self.old.out))
             (bytes_put (account S.Output.contents self.new.out)) }
         ensures report_same { self.new.report ≡ self.old.report }
+        ensures same_syncs { self.new.syncs ≡ self.old.syncs }
     {
         let is_alone = self.report.name.is_none() && self.report.faults == 0;
         if is_alone && self.capture.faults == 0 && self.out.faults == 0 && !self.out.make_ready() {
@@ -204,8 +220,9 @@ impl<S: System + Drop> FileDesk<S> {
         self.capture.file.is_some()
     }
 
-    /// Hands the gathered bytes on to their files, and returns the first slot whose gathered bytes were lost. A slot that
-    /// has failed at one of its own calls, which reported it, is left out.
+    /// Hands the gathered bytes on to their files, which are brought to the disk then if [`FileDesk::set_sync`] asked for
+    /// it. Returns the first slot for which either failed. A slot that has failed at one of its own calls, which reported it,
+    /// is left out.
     #[tactic(auto, unfolding(nfp_outside::specs::Slots::at_slot))]
     pub fn hand_on(&mut self) -> Option<Slot>
         ensures view { let slots = ⟦<FileDesk<S> as Desk>⟧.slots in
@@ -216,11 +233,13 @@ impl<S: System + Drop> FileDesk<S> {
             (bytes_put (account S.Output.contents self.new.report)) }
         ensures out_handed_on { IsNone result → IsHandedOn S.Output.contents self.new.out }
         ensures report_handed_on { IsNone result → IsHandedOn S.Output.contents self.new.report }
+        ensures synced { IsNone result → self.old.syncs ≡ true → IsAllSynced S.Output.on_disk self.new }
+        ensures same_syncs { self.new.syncs ≡ self.old.syncs }
     {
         if self.lost.is_none() {
-            if !self.out.hand_on() {
+            if !self.out.finish(self.syncs) {
                 self.lost = Some(Slot::Out);
-            } else if !self.report.hand_on() {
+            } else if !self.report.finish(self.syncs) {
                 self.lost = Some(Slot::Report);
             }
         }
@@ -280,6 +299,7 @@ impl<S: System + Drop> Desk for FileDesk<S> {
             (output_identity S.Output.known_as self.new.out) self.old) }
         ensures report_apart { slot ≡ Slot.Report → OnOk result (IsApart S.Input.known_as S.Output.known_as
             (output_identity S.Output.known_as self.new.report) self.old) }
+        ensures same_syncs { self.new.syncs ≡ self.old.syncs }
     {
         let text = copy_of(self.system.alloc(), name)?;
         match slot {
@@ -330,7 +350,7 @@ impl<S: System + Drop> Desk for FileDesk<S> {
         ensures no_want { IsErrOf result DeskFault.NoMemory → ⊥ }
         ensures counted { let slots = ⟦<FileDesk<S> as Desk>⟧.slots in
             CountsFailure (slots self.old slot).faults (slots self.new slot).faults result }
-        ensures told { ReadConsumes
+        ensures consumed { ReadConsumes
             (left_at S.Input.remaining self.old.policy self.old.capture self.old.graph slot)
             (left_at S.Input.remaining self.new.policy self.new.capture self.new.graph slot) result into.new }
         ensures others_left { (s : Slot) → s ≢ slot →
@@ -338,6 +358,7 @@ impl<S: System + Drop> Desk for FileDesk<S> {
             ≡ left_at S.Input.remaining self.old.policy self.old.capture self.old.graph s }
         ensures out_kept { self.new.out ≡ self.old.out }
         ensures report_kept { self.new.report ≡ self.old.report }
+        ensures same_syncs { self.new.syncs ≡ self.old.syncs }
     {
         match slot {
             Slot::Policy => self.policy.read(into),
@@ -377,6 +398,8 @@ impl<S: System + Drop> Desk for FileDesk<S> {
             (bytes_put (account S.Output.contents self.new.report)) }
         ensures out_handed_on { slot ≡ Slot.Note → OnOk result (IsHandedOn S.Output.contents self.new.out) }
         ensures report_handed_on { slot ≡ Slot.Note → OnOk result (IsHandedOn S.Output.contents self.new.report) }
+        ensures synced { slot ≡ Slot.Note → self.old.syncs ≡ true → OnOk result (IsAllSynced S.Output.on_disk self.new) }
+        ensures same_syncs { self.new.syncs ≡ self.old.syncs }
     {
         match slot {
             Slot::Out => self.out.write(bytes),

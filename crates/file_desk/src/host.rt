@@ -10,7 +10,7 @@ use std::os::unix::fs::{FileTypeExt, MetadataExt};
 use std::rt::Files;
 use std::{fs, io};
 
-/// The operating system as a runtime reaches it. Its files tell no bytes.
+/// The operating system as a runtime reaches it. Its files show no bytes.
 #[derive(Drop)]
 pub struct Host<R> {
     rt: R,
@@ -48,6 +48,8 @@ pub struct HostOutput<F> {
     file: F,
     identity: Option<Identity>,
     is_new: bool,
+    // Whether nothing was done to the file since it was brought to the disk.
+    is_synced: bool,
 }
 
 impl<R: Files + Print + AllocGlobal> System for Host<R>
@@ -71,6 +73,7 @@ where
             file,
             identity,
             is_new,
+            is_synced: false,
         })
     }
 
@@ -80,7 +83,7 @@ where
 
     fn stream_identity(&self, stream: Stream) -> Option<Identity> {
         match fs::metadata(&self.rt, path_of(stream)) {
-            Ok(told) if told.is_file() => identity_in(&told),
+            Ok(metadata) if metadata.is_file() => identity_in(&metadata),
             _ => None,
         }
     }
@@ -110,6 +113,7 @@ impl<F: Read> InputFile for HostInput<F> {
 
 impl<F: Write> Write for HostOutput<F> {
     fn write(&mut self, bytes: &[u8]) -> io::Result<usize> {
+        self.is_synced = false;
         self.file.write(bytes)
     }
 
@@ -121,12 +125,26 @@ impl<F: Write> Write for HostOutput<F> {
 impl<F: Write + OpenFile + Lockable> OutputFile for HostOutput<F> {
     ghost known_as = { λ f. f.identity };
 
+    ghost on_disk = { λ f. f.is_synced };
+
     // A file that is already empty is left alone: some file systems write everything to the disk before they close a file
     // that was emptied.
     fn truncate(&mut self) -> io::Result<()> {
-        let told = self.file.metadata()?;
-        if told.is_file() && told.len() > 0 {
+        let metadata = self.file.metadata()?;
+        if metadata.is_file() && metadata.len() > 0 {
+            self.is_synced = false;
             self.file.set_len(0)?;
+        }
+        Ok(())
+    }
+
+    // The system refuses this for pipes and most devices.
+    fn sync(&mut self) -> io::Result<()> {
+        if !self.is_synced {
+            if self.file.metadata()?.is_file() {
+                self.file.sync_all()?;
+            }
+            self.is_synced = true;
         }
         Ok(())
     }
@@ -142,7 +160,7 @@ impl<F: Write + OpenFile + Lockable> OutputFile for HostOutput<F> {
     // Devices and pipes aren't locked, since several programs may write to them.
     fn lock(&self) -> bool {
         match self.file.metadata() {
-            Ok(told) if told.is_file() => {
+            Ok(metadata) if metadata.is_file() => {
                 !matches!(self.file.try_lock(), Err(TryLockError::WouldBlock))
             }
             _ => true,
@@ -180,16 +198,16 @@ fn path_of(stream: Stream) -> &'static str {
 // A terminal and other character devices hold nothing that could be lost, so they have no identity.
 fn identity_of(file: &impl OpenFile) -> Option<Identity> {
     match file.metadata() {
-        Ok(told) if !told.file_type().is_char_device() => identity_in(&told),
+        Ok(metadata) if !metadata.file_type().is_char_device() => identity_in(&metadata),
         _ => None,
     }
 }
 
-fn identity_in(told: &Metadata) -> Option<Identity> {
-    match told.ino() {
+fn identity_in(metadata: &Metadata) -> Option<Identity> {
+    match metadata.ino() {
         0 => None,
         number => Some(Identity {
-            device: told.dev(),
+            device: metadata.dev(),
             number,
         }),
     }

@@ -1,4 +1,4 @@
-// How two files are told apart.
+// How two files are compared.
 
 /// The identity of a file: its device, and its inode number there.
 #[derive(Clone, Copy, Debug)]

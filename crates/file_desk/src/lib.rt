@@ -12,7 +12,8 @@
 //!
 //! What is put into a file is gathered, and passed on in pieces of 64 KiB. So a failed write of gathered bytes counts
 //! when it is found: at the call of its own slot that needed the room, or at that of Note, before which all gathered
-//! bytes are written. [`FileDesk::hand_on`] returns the slot that lost them. [`FileDesk::reason`] returns why a slot
+//! bytes are written. With [`FileDesk::set_sync`] the files of Out and Report are also brought to the disk then, which their
+//! calls `sync` say they did. [`FileDesk::hand_on`] returns the slot for which either failed. [`FileDesk::reason`] returns why a slot
 //! failed; nothing is promised of it. Bytes that are still gathered when the desk is dropped are written then, if
 //! possible.
 //!

@@ -3,7 +3,7 @@ ghost use Rattle.std.specs.Prelude.{◌≡◌, ◌≤◌, IfOk, OnOk, OnErr, IsO
 ghost use Rattle.std.specs.String.{string_bytes};
 ghost use Rattle.std.specs.Io.KnownBytes.{Keeps, ReadConsumes, WriteAppends};
 ghost use Rattle.nfp_outside.specs.Outside.{KeepsSlot, HasCause, IsRisen, CountsFailure, one_more, Attaches, Reads, Writes, fresh_slot};
-ghost use Rattle.file_desk.specs.Port.{port_view, left_in, account, bytes_put, IsHandedOn, IsWritten};
+ghost use Rattle.file_desk.specs.Port.{port_view, left_in, account, bytes_put, IsHandedOn, IsSynced, IsWritten};
 
 use crate::reason::{OpenFault, Reason};
 use crate::system::OutputFile;
@@ -84,7 +84,7 @@ impl<F: Read + Drop> Port<BufReader<F>> {
         ensures cause { HasCause (port_view self.old) (port_view self.new) result }
         ensures no_want { IsErrOf result DeskFault.NoMemory → ⊥ }
         ensures counted { CountsFailure self.old.faults self.new.faults result }
-        ensures told { ReadConsumes (left_in F.remaining self.old) (left_in F.remaining self.new) result into.new }
+        ensures consumed { ReadConsumes (left_in F.remaining self.old) (left_in F.remaining self.new) result into.new }
     {
         match &mut self.file {
             Some(file) => match file.read(into) {
@@ -118,7 +118,7 @@ impl<F: OutputFile + Drop> Port<BufWriter<Target<F>>> {
     }
 
     // Hands the gathered bytes on to the file, unless a call of this slot has failed. Returns whether it took all of them.
-    pub fn hand_on(&mut self) -> bool
+    fn hand_on(&mut self) -> bool
         ensures view { port_view self.new ≡ port_view self.old }
         ensures put { Keeps (bytes_put (account F.contents self.old)) (bytes_put (account F.contents self.new)) }
         ensures handed_on { IsTrue result → IsHandedOn F.contents self.new }
@@ -133,6 +133,36 @@ impl<F: OutputFile + Drop> Port<BufWriter<Target<F>>> {
             },
             _ => true,
         }
+    }
+
+    // Brings what the file holds to the disk, unless a call of this slot has failed. Returns whether it is there.
+    fn sync(&mut self) -> bool
+        ensures view { port_view self.new ≡ port_view self.old }
+        ensures put { Keeps (bytes_put (account F.contents self.old)) (bytes_put (account F.contents self.new)) }
+        ensures handed_on { IsHandedOn F.contents self.old → IsHandedOn F.contents self.new }
+        ensures synced { IsTrue result → IsSynced F.on_disk self.new }
+    {
+        match &mut self.file {
+            Some(writer) if self.faults == 0 => match writer.get_mut().sync() {
+                Ok(()) => true,
+                Err(error) => {
+                    self.reason = Some(Reason::System(error));
+                    false
+                }
+            },
+            _ => true,
+        }
+    }
+
+    // Hands the gathered bytes on, and where `syncs` is true brings what the file holds to the disk then. Returns whether
+    // both went well.
+    pub fn finish(&mut self, syncs: bool) -> bool
+        ensures view { port_view self.new ≡ port_view self.old }
+        ensures put { Keeps (bytes_put (account F.contents self.old)) (bytes_put (account F.contents self.new)) }
+        ensures handed_on { IsTrue result → IsHandedOn F.contents self.new }
+        ensures synced { IsTrue result → syncs ≡ true → IsSynced F.on_disk self.new }
+    {
+        self.hand_on() && (!syncs || self.sync())
     }
 
     // Empties the file, if there is one. Returns whether it is empty, and keeps the reason if it can't be emptied.

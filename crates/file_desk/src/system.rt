@@ -1,5 +1,5 @@
 // What the desk asks of the operating system. That the system keeps to these clauses is trusted.
-ghost use Rattle.std.specs.Prelude.{◌≡◌, OnOk, OnErr, Option};
+ghost use Rattle.std.specs.Prelude.{◌≡◌, OnOk, OnErr, Bool, true, Option};
 ghost use Rattle.std.specs.Io.{WritesAtMost};
 ghost use Rattle.std.specs.Io.KnownBytes.{Keeps};
 ghost use Rattle.file_desk.specs.declared.identity.Identity.{Identity};
@@ -39,7 +39,7 @@ pub trait System {
     fn alloc(&self) -> Global;
 }
 
-/// A file that is open to be read. `remaining` are the bytes that are left in it, if it tells them.
+/// A file that is open to be read. `remaining` are the bytes that are left in it, if it shows them.
 pub trait InputFile: Read {
     /// The identity of the file, if the system showed it.
     ghost known_as: { Self → Option Identity };
@@ -49,15 +49,25 @@ pub trait InputFile: Read {
         ensures { result ≡ known_as self.now };
 }
 
-/// A file that is open to be written. `contents` are the bytes that it holds, if it tells them.
+/// A file that is open to be written. `contents` are the bytes that it holds, if it shows them.
 pub trait OutputFile: Write {
     /// The identity of the file, if the system showed it.
     ghost known_as: { Self → Option Identity };
+
+    /// Whether all that the file holds was brought to the disk.
+    ghost on_disk: { Self → Bool };
 
     /// Makes the file hold nothing. Something that is no file on a disk, such as a pipe, holds nothing anyway.
     fn truncate(&mut self) -> io::Result<()>
         ensures emptied { OnOk result (Empties (Self.contents self.old) (Self.contents self.new)) }
         ensures kept { OnErr result (Keeps (Self.contents self.old) (Self.contents self.new)) }
+        ensures same_file { known_as self.new ≡ known_as self.old };
+
+    /// Brings what the file holds to the disk. Something that is no regular file, such as a pipe or a device, holds
+    /// nothing that has to be brought there.
+    fn sync(&mut self) -> io::Result<()>
+        ensures synced { OnOk result (on_disk self.new ≡ true) }
+        ensures kept { Keeps (Self.contents self.old) (Self.contents self.new) }
         ensures same_file { known_as self.new ≡ known_as self.old };
 
     /// The identity of the file, if the system showed it.

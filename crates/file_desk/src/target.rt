@@ -61,6 +61,16 @@ impl<F: OutputFile + Drop> Target<F> {
         }
         Ok(())
     }
+
+    /// Brings what the file holds to the disk.
+    pub fn sync(&mut self) -> io::Result<()>
+        ensures synced { OnOk result (F.on_disk self.new.file ≡ true) }
+        ensures as_emptied { self.new.is_emptied ≡ self.old.is_emptied }
+        ensures same_file { F.known_as self.new.file ≡ F.known_as self.old.file }
+        ensures handed_on { Keeps (target_contents F.contents self.old) (target_contents F.contents self.new) }
+    {
+        self.file.sync()
+    }
 }
 
 impl<F: OutputFile + Drop> Write for Target<F> {

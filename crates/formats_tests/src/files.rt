@@ -77,8 +77,14 @@ impl<F: Write> Write for SlowFile<F> {
 impl<F: OutputFile> OutputFile for SlowFile<F> {
     ghost known_as = { λ f. F.known_as f.file };
 
+    ghost on_disk = { λ f. F.on_disk f.file };
+
     fn truncate(&mut self) -> io::Result<()> {
         self.file.truncate()
+    }
+
+    fn sync(&mut self) -> io::Result<()> {
+        self.file.sync()
     }
 
     fn identity(&self) -> Option<Identity> {

@@ -22,35 +22,30 @@ use Rattle.policy_lint.specs.Rules.{word_of}
 use Rattle.lint_laws.specs.Made.{made_virtual}
 use Rattle.lint_laws.specs.Reading.{read_virtual}
 use Rattle.lint_laws.proofs.Accepted.{AreSaid, neither, not_both, all_said, none_lacking}
-
-abbrev words_of : List ℕ → List ℕ → List ℕ → List (List ℕ)
-words_of lead key text = lead ∷ key ∷ text ∷ []
+use Rattle.lint_laws.proofs.SetLines.{words_of, same_words, sets_by, not_none}
 
 abbrev IsSpelled : List (List ℕ) → BalancerLine → Type 0
-IsSpelled words (lines.VirtualAddress a) = (text : List ℕ) × (words ≡ words_of (codes "set") (codes "vip") text) × (ip_address_of text ≡ Some a)
-IsSpelled words (lines.Backend a) = (text : List ℕ) × (key : List ℕ) × (words ≡ words_of (codes "rule") key text)
+IsSpelled words (lines.VirtualAddress a) = (text : List ℕ) × (words ≡ words_of (codes "vip") text) × (ip_address_of text ≡ Some a)
+IsSpelled words (lines.Backend a) = (text : List ℕ) × (key : List ℕ) × (words ≡ codes "rule" ∷ key ∷ text ∷ [])
 
-same_words : (lead key text first second : List ℕ) → lead ≡ first → key ≡ second → words_of lead key text ≡ words_of first second text
-same_words lead key text first second is_lead is_key = ap (λ a. words_of a key text) is_lead ∙ ap (λ a. words_of first a text) is_key
-
-virtual_by : (words : List (List ℕ)) (text : List ℕ) (l : BalancerLine) (o : Option IpAddr) → words ≡ words_of (codes "set") (codes "vip") text → ip_address_of text ≡ o → option_map (λ a. lines.VirtualAddress a) o ≡ Some l → IsSpelled words l
+virtual_by : (words : List (List ℕ)) (text : List ℕ) (l : BalancerLine) (o : Option IpAddr) → words ≡ words_of (codes "vip") text → ip_address_of text ≡ o → option_map (λ a. lines.VirtualAddress a) o ≡ Some l → IsSpelled words l
 virtual_by words text l None w e h = absurd cc
 virtual_by words text l (Some a) w e h = let same : lines.VirtualAddress a ≡ l = cc in subst (IsSpelled words) same (text, w, e)
 
-virtual_spelled : (lead key text : List ℕ) (l : BalancerLine) (v : Bool) → lead ≡ codes "set" → bytes_eq key (codes "vip") ≡ v → (if v then option_map (λ a. lines.VirtualAddress a) (ip_address_of text) else None) ≡ Some l → IsSpelled (words_of lead key text) l
-virtual_spelled lead key text l true s e h = virtual_by (words_of lead key text) text l (ip_address_of text) (same_words lead key text (codes "set") (codes "vip") s ((bytes_eq-Decides key (codes "vip")).0 e)) refl h
+virtual_spelled : (lead key text : List ℕ) (l : BalancerLine) (v : Bool) → lead ≡ codes "set" → bytes_eq key (codes "vip") ≡ v → (if v then option_map (λ a. lines.VirtualAddress a) (ip_address_of text) else None) ≡ Some l → IsSpelled (lead ∷ key ∷ text ∷ []) l
+virtual_spelled lead key text l true s e h = virtual_by (lead ∷ key ∷ text ∷ []) text l (ip_address_of text) (same_words lead key text (codes "vip") s ((bytes_eq-Decides key (codes "vip")).0 e)) refl h
 virtual_spelled lead key text l false s e h = absurd cc
 
-backend_by : (words : List (List ℕ)) (key text : List ℕ) (l : BalancerLine) (o : Option IpAddr) → words ≡ words_of (codes "rule") key text → option_map (λ a. lines.Backend a) o ≡ Some l → IsSpelled words l
+backend_by : (words : List (List ℕ)) (key text : List ℕ) (l : BalancerLine) (o : Option IpAddr) → words ≡ codes "rule" ∷ key ∷ text ∷ [] → option_map (λ a. lines.Backend a) o ≡ Some l → IsSpelled words l
 backend_by words key text l None w h = absurd cc
 backend_by words key text l (Some a) w h = let same : lines.Backend a ≡ l = cc in subst (IsSpelled words) same (text, key, w)
 
-backend_spelled : (lead key text : List ℕ) (l : BalancerLine) (b : Bool) → lead ≡ codes "rule" → (if b then option_map (λ a. lines.Backend a) (ip_address_of text) else None) ≡ Some l → IsSpelled (words_of lead key text) l
-backend_spelled lead key text l true s h = backend_by (words_of lead key text) key text l (ip_address_of text) (ap (λ a. words_of a key text) s) h
+backend_spelled : (lead key text : List ℕ) (l : BalancerLine) (b : Bool) → lead ≡ codes "rule" → (if b then option_map (λ a. lines.Backend a) (ip_address_of text) else None) ≡ Some l → IsSpelled (lead ∷ key ∷ text ∷ []) l
+backend_spelled lead key text l true s h = backend_by (lead ∷ key ∷ text ∷ []) key text l (ip_address_of text) (ap (λ a. a ∷ key ∷ text ∷ []) s) h
 backend_spelled lead key text l false s h = absurd cc
 
 lead_spelled : (lead key text : List ℕ) (l : BalancerLine) (s r : Bool) → bytes_eq lead (codes "set") ≡ s → bytes_eq lead (codes "rule") ≡ r →
-    (if s then virtual_address_of key text else (if r then backend_of key text else None)) ≡ Some l → IsSpelled (words_of lead key text) l
+    (if s then virtual_address_of key text else (if r then backend_of key text else None)) ≡ Some l → IsSpelled (lead ∷ key ∷ text ∷ []) l
 lead_spelled lead key text l true r es er h = virtual_spelled lead key text l (bytes_eq key (codes "vip")) ((bytes_eq-Decides lead (codes "set")).0 es) refl h
 lead_spelled lead key text l false true es er h = backend_spelled lead key text l (bytes_eq key (codes "backend")) ((bytes_eq-Decides lead (codes "rule")).0 er) h
 lead_spelled lead key text l false false es er h = absurd cc
@@ -63,17 +58,14 @@ spelled (lead ∷ key ∷ []) l h = absurd cc
 spelled (lead ∷ key ∷ text ∷ []) l h = lead_spelled lead key text l (bytes_eq lead (codes "set")) (bytes_eq lead (codes "rule")) refl refl h
 spelled (lead ∷ key ∷ text ∷ more ∷ words) l h = absurd cc
 
-abbrev sets_by : List (List ℕ) → Bool
-sets_by words = bytes_eq (word_of words 0) (codes "set") && bytes_eq (word_of words 1) (codes "vip")
-
 abbrev address_in : Option Setting → Option IpAddr
 address_in o = option_and_then (λ (s : Setting). ip_address_of (word_of s.words 2)) o
 
 found_by : (s : Setting) (l : BalancerLine) (said : List BalancerLine) (later : List Setting) → IsSpelled s.words l → option_and_then virtual_in (find is_virtual_address said) ≡ address_in (find (sets (codes "vip")) later) →
     option_and_then virtual_in (find is_virtual_address (l ∷ said)) ≡ address_in (cond (sets (codes "vip") s) (Some s) (find (sets (codes "vip")) later))
 found_by s (lines.VirtualAddress a) said later sp rest =
-    sym (ap (λ b. address_in (cond b (Some s) (find (sets (codes "vip")) later))) (ap sets_by sp.1) ∙ ap (λ w. ip_address_of (word_of w 2)) sp.1 ∙ sp.2)
-found_by s (lines.Backend a) said later sp rest = rest ∙ sym (ap (λ b. address_in (cond b (Some s) (find (sets (codes "vip")) later))) (ap sets_by sp.2))
+    sym (ap (λ b. address_in (cond b (Some s) (find (sets (codes "vip")) later))) (ap (sets_by (codes "vip")) sp.1) ∙ ap (λ w. ip_address_of (word_of w 2)) sp.1 ∙ sp.2)
+found_by s (lines.Backend a) said later sp rest = rest ∙ sym (ap (λ b. address_in (cond b (Some s) (find (sets (codes "vip")) later))) (ap (sets_by (codes "vip")) sp.2))
 
 found : (later : List Setting) → AreSaid balancer_lines later → virtual_address_by (said_by balancer_lines later) ≡ address_in (find (sets (codes "vip")) later)
 found [] said = refl
@@ -88,10 +80,6 @@ there : (said : List BalancerLine) → list_any is_virtual_address said ≡ true
 there [] h = absurd cc
 there (lines.VirtualAddress a ∷ said) h = (a, refl)
 there (lines.Backend a ∷ said) h = there said h
-
-not_none : (b : Bool) → not b ≡ false → b ≡ true
-not_none true h = refl
-not_none false h = absurd cc
 
 -- an address that is read as a number of either version
 as_numbers : (line : ℕ) (o p : Option ℕ) → option_or (option_map ipv4_address o) (option_map ipv6_address p) ≡

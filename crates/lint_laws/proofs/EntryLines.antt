@@ -22,17 +22,12 @@ use Rattle.policy_lint.specs.Rules.{word_of}
 use Rattle.lint_laws.specs.Made.{made_entry, made_exit}
 use Rattle.lint_laws.proofs.Accepted.{neither, all_said, all_new, none_lacking}
 use Rattle.lint_laws.proofs.Keyed.{IsKey, value_made, value_there}
-
-abbrev words_of : List ℕ → List ℕ → List (List ℕ)
-words_of key text = codes "set" ∷ key ∷ text ∷ []
+use Rattle.lint_laws.proofs.SetLines.{words_of, same_words, sets_by, value_by, any_same, not_none}
 
 abbrev IsSpelled : List (List ℕ) → EntryLine → Type 0
 IsSpelled words (entries.Entry a) = (text : List ℕ) × (words ≡ words_of (codes "entry") text) × (address_by text ≡ Some a)
 IsSpelled words (entries.Exit a) = (text : List ℕ) × (words ≡ words_of (codes "exit") text) × (address_by text ≡ Some a)
 IsSpelled words (entries.Ttl n) = (text : List ℕ) × (words ≡ words_of (codes "ttl") text)
-
-same_words : (lead key text name : List ℕ) → lead ≡ codes "set" → key ≡ name → lead ∷ key ∷ text ∷ [] ≡ words_of name text
-same_words lead key text name is_set is_key = ap (λ a. a ∷ key ∷ text ∷ []) is_set ∙ ap (λ a. codes "set" ∷ a ∷ text ∷ []) is_key
 
 entry_spelled : (words : List (List ℕ)) (text : List ℕ) (l : EntryLine) (o : Option Ipv4Addr) → words ≡ words_of (codes "entry") text → address_by text ≡ o → option_map (λ a. entries.Entry a) o ≡ Some l → IsSpelled words l
 entry_spelled words text l None w e h = absurd cc
@@ -66,12 +61,6 @@ spelled (lead ∷ key ∷ []) l h = absurd cc
 spelled (lead ∷ key ∷ text ∷ []) l h = lead_spelled lead key text l (bytes_eq lead (codes "set")) refl h
 spelled (lead ∷ key ∷ text ∷ more ∷ words) l h = absurd cc
 
-abbrev sets_by : List ℕ → List (List ℕ) → Bool
-sets_by key words = bytes_eq (word_of words 0) (codes "set") && bytes_eq (word_of words 1) key
-
-abbrev value_by : List ℕ → List (List ℕ) → Option Ipv4Addr
-value_by key words = if sets_by key words then address_by (word_of words 2) else None
-
 abbrev entry_in : EntryLine → Option Ipv4Addr
 entry_in (entries.Entry a) = Some a
 entry_in l = None
@@ -80,15 +69,15 @@ abbrev exit_in : EntryLine → Option Ipv4Addr
 exit_in (entries.Exit a) = Some a
 exit_in l = None
 
-entry_set : (words : List (List ℕ)) (l : EntryLine) → IsSpelled words l → (sets_by (codes "entry") words ≡ is_some (entry_in l)) × (entry_in l ≡ value_by (codes "entry") words)
-entry_set words (entries.Entry a) sp = (ap (sets_by (codes "entry")) sp.1, sym (ap (value_by (codes "entry")) sp.1 ∙ sp.2))
-entry_set words (entries.Exit a) sp = (ap (sets_by (codes "entry")) sp.1, sym (ap (value_by (codes "entry")) sp.1))
-entry_set words (entries.Ttl n) sp = (ap (sets_by (codes "entry")) sp.1, sym (ap (value_by (codes "entry")) sp.1))
+entry_set : (words : List (List ℕ)) (l : EntryLine) → IsSpelled words l → (sets_by (codes "entry") words ≡ is_some (entry_in l)) × (entry_in l ≡ value_by address_by (codes "entry") words)
+entry_set words (entries.Entry a) sp = (ap (sets_by (codes "entry")) sp.1, sym (ap (value_by address_by (codes "entry")) sp.1 ∙ sp.2))
+entry_set words (entries.Exit a) sp = (ap (sets_by (codes "entry")) sp.1, sym (ap (value_by address_by (codes "entry")) sp.1))
+entry_set words (entries.Ttl n) sp = (ap (sets_by (codes "entry")) sp.1, sym (ap (value_by address_by (codes "entry")) sp.1))
 
-exit_set : (words : List (List ℕ)) (l : EntryLine) → IsSpelled words l → (sets_by (codes "exit") words ≡ is_some (exit_in l)) × (exit_in l ≡ value_by (codes "exit") words)
-exit_set words (entries.Entry a) sp = (ap (sets_by (codes "exit")) sp.1, sym (ap (value_by (codes "exit")) sp.1))
-exit_set words (entries.Exit a) sp = (ap (sets_by (codes "exit")) sp.1, sym (ap (value_by (codes "exit")) sp.1 ∙ sp.2))
-exit_set words (entries.Ttl n) sp = (ap (sets_by (codes "exit")) sp.1, sym (ap (value_by (codes "exit")) sp.1))
+exit_set : (words : List (List ℕ)) (l : EntryLine) → IsSpelled words l → (sets_by (codes "exit") words ≡ is_some (exit_in l)) × (exit_in l ≡ value_by address_by (codes "exit") words)
+exit_set words (entries.Entry a) sp = (ap (sets_by (codes "exit")) sp.1, sym (ap (value_by address_by (codes "exit")) sp.1))
+exit_set words (entries.Exit a) sp = (ap (sets_by (codes "exit")) sp.1, sym (ap (value_by address_by (codes "exit")) sp.1 ∙ sp.2))
+exit_set words (entries.Ttl n) sp = (ap (sets_by (codes "exit")) sp.1, sym (ap (value_by address_by (codes "exit")) sp.1))
 
 entry_taken : (e : Encap) (l : EntryLine) → (with_entry_line e l).entry ≡ unwrap_or (entry_in l) e.entry
 entry_taken e (entries.Entry a) = refl
@@ -115,14 +104,6 @@ exit_same : (l : EntryLine) → is_entry_exit l ≡ is_some (exit_in l)
 exit_same (entries.Entry a) = refl
 exit_same (entries.Exit a) = refl
 exit_same (entries.Ttl n) = refl
-
-any_same : (p q : EntryLine → Bool) → ((l : EntryLine) → p l ≡ q l) → (said : List EntryLine) → list_any p said ≡ list_any q said
-any_same p q same [] = refl
-any_same p q same (l ∷ said) = ap (λ b. b || list_any p said) (same l) ∙ ap (λ b. q l || b) (any_same p q same said)
-
-not_none : (b : Bool) → not b ≡ false → b ≡ true
-not_none true h = refl
-not_none false h = absurd cc
 
 -- an address that is read as a number
 as_number : (s : Setting) (o : Option ℕ) → option_map (λ (v : ℕ × Ipv4Addr). v.1) (option_map (λ (a : Ipv4Addr). (s.line, a)) (option_map ipv4_address o)) ≡ option_map (λ (v : ℕ × ℕ). ipv4_address v.1) (option_map (λ (n : ℕ). (s.line, n)) o)

@@ -12,5 +12,6 @@ pub mod Needless
 pub mod OfPackets
 pub mod PatternLines
 pub mod RuleLines
+pub mod SetLines
 pub mod Shut
 pub mod Twins

@@ -23,16 +23,11 @@ use Rattle.policy_lint.specs.Rules.{word_of}
 use Rattle.lint_laws.specs.Made.{made_burst}
 use Rattle.lint_laws.proofs.Accepted.{neither, all_said, all_new, none_lacking}
 use Rattle.lint_laws.proofs.Keyed.{IsKey, value_made, value_there}
-
-abbrev words_of : List ℕ → List ℕ → List (List ℕ)
-words_of key text = codes "set" ∷ key ∷ text ∷ []
+use Rattle.lint_laws.proofs.SetLines.{words_of, same_words, sets_by, value_by, any_same, not_none}
 
 abbrev IsSpelled : List (List ℕ) → LimiterLine → Type 0
 IsSpelled words (lines.Rate n) = (text : List ℕ) × (words ≡ words_of (codes "rate") text)
 IsSpelled words (lines.Burst n) = (text : List ℕ) × (words ≡ words_of (codes "burst") text) × (number_of 20 4294967295 text ≡ Some n)
-
-same_words : (lead key text name : List ℕ) → lead ≡ codes "set" → key ≡ name → lead ∷ key ∷ text ∷ [] ≡ words_of name text
-same_words lead key text name is_set is_key = ap (λ a. a ∷ key ∷ text ∷ []) is_set ∙ ap (λ a. codes "set" ∷ a ∷ text ∷ []) is_key
 
 positive_by : (n m : ℕ) (zero : Bool) → (if zero then None else Some n) ≡ Some m → n ≡ m
 positive_by n m true h = absurd cc
@@ -68,19 +63,13 @@ spelled (lead ∷ key ∷ []) l h = absurd cc
 spelled (lead ∷ key ∷ text ∷ []) l h = lead_spelled lead key text l (bytes_eq lead (codes "set")) refl h
 spelled (lead ∷ key ∷ text ∷ more ∷ words) l h = absurd cc
 
-abbrev sets_by : List (List ℕ) → Bool
-sets_by words = bytes_eq (word_of words 0) (codes "set") && bytes_eq (word_of words 1) (codes "burst")
-
-abbrev value_by : List (List ℕ) → Option ℕ
-value_by words = if sets_by words then number_of 20 4294967295 (word_of words 2) else None
-
 abbrev burst_in : LimiterLine → Option ℕ
 burst_in (lines.Rate n) = None
 burst_in (lines.Burst n) = Some n
 
-burst_set : (words : List (List ℕ)) (l : LimiterLine) → IsSpelled words l → (sets_by words ≡ is_some (burst_in l)) × (burst_in l ≡ value_by words)
-burst_set words (lines.Rate n) sp = (ap sets_by sp.1, sym (ap value_by sp.1))
-burst_set words (lines.Burst n) sp = (ap sets_by sp.1, sym (ap value_by sp.1 ∙ sp.2))
+burst_set : (words : List (List ℕ)) (l : LimiterLine) → IsSpelled words l → (sets_by (codes "burst") words ≡ is_some (burst_in l)) × (burst_in l ≡ value_by (number_of 20 4294967295) (codes "burst") words)
+burst_set words (lines.Rate n) sp = (ap (sets_by (codes "burst")) sp.1, sym (ap (value_by (number_of 20 4294967295) (codes "burst")) sp.1))
+burst_set words (lines.Burst n) sp = (ap (sets_by (codes "burst")) sp.1, sym (ap (value_by (number_of 20 4294967295) (codes "burst")) sp.1 ∙ sp.2))
 
 burst_taken : (l : Limiter) (line : LimiterLine) → (with_line l line).burst ≡ unwrap_or (burst_in line) l.burst
 burst_taken l (lines.Rate n) = refl
@@ -93,14 +82,6 @@ burst_same : (l : LimiterLine) → is_burst l ≡ is_some (burst_in l)
 burst_same (lines.Rate n) = refl
 burst_same (lines.Burst n) = refl
 
-any_same : (said : List LimiterLine) → list_any is_burst said ≡ list_any (λ l. is_some (burst_in l)) said
-any_same [] = refl
-any_same (l ∷ said) = ap (λ b. b || list_any is_burst said) (burst_same l) ∙ ap (λ b. is_some (burst_in l) || b) (any_same said)
-
-not_none : (b : Bool) → not b ≡ false → b ≡ true
-not_none true h = refl
-not_none false h = absurd cc
-
 module _ (decl : FunctionDecl) where
   module _ (accepted : refused_line_of limiter_lines decl ≡ None) where
     abbrev said : List LimiterLine
@@ -108,7 +89,7 @@ module _ (decl : FunctionDecl) where
 
     there : (v : ℕ × ℕ) × (value_of (number_of 20 4294967295) (codes "burst") decl ≡ Some v)
     there = value_there limiter_lines with_line (number_of 20 4294967295) (codes "burst") burst_in (λ (l : Limiter). l.burst) burst_key decl.settings (all_said limiter_lines decl accepted)
-        (sym (any_same said)
+        (sym (any_same is_burst (λ l. is_some (burst_in l)) burst_same said)
         ∙ not_none (list_any is_burst said) (neither (not (list_any is_burst said)) false (neither (not (list_any is_rate said)) (not (list_any is_burst said) || false) (none_lacking limiter_lines decl accepted)).1).0)
 
     burst_made : Some (limiter_by said).burst ≡ option_map (λ (v : ℕ × ℕ). v.1) (value_of (number_of 20 4294967295) (codes "burst") decl)

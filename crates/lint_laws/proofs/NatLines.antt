@@ -20,18 +20,13 @@ use Rattle.policy_lint.specs.Rules.{word_of}
 use Rattle.lint_laws.specs.Reading.{read_nat}
 use Rattle.lint_laws.proofs.Accepted.{neither, all_said, all_new, none_lacking}
 use Rattle.lint_laws.proofs.Keyed.{IsKey, value_made, value_there}
+use Rattle.lint_laws.proofs.SetLines.{words_of, same_words, sets_by, value_by, any_same, not_none}
 
 -- How each line is spelled.
-abbrev words_of : List ℕ → List ℕ → List (List ℕ)
-words_of key text = codes "set" ∷ key ∷ text ∷ []
-
 abbrev IsSpelled : List (List ℕ) → NatLine → Type 0
 IsSpelled words (lines.Inside prefix bits) = (text : List ℕ) × (words ≡ words_of (codes "inside") text) × (prefix_of text ≡ Some (prefix, bits))
 IsSpelled words (lines.Public address) = (text : List ℕ) × (words ≡ words_of (codes "public") text) × (address_of text ≡ Some address)
 IsSpelled words (lines.Ports low high) = (text : List ℕ) × (words ≡ words_of (codes "ports") text) × (range_of text ≡ Some (low, high))
-
-same_words : (lead key text name : List ℕ) → lead ≡ codes "set" → key ≡ name → lead ∷ key ∷ text ∷ [] ≡ words_of name text
-same_words lead key text name is_set is_key = ap (λ a. a ∷ key ∷ text ∷ []) is_set ∙ ap (λ a. codes "set" ∷ a ∷ text ∷ []) is_key
 
 inside_spelled : (words : List (List ℕ)) (text : List ℕ) (l : NatLine) (o : Option (ℕ × ℕ)) → words ≡ words_of (codes "inside") text → prefix_of text ≡ o → option_map (λ p. lines.Inside p.0 p.1) o ≡ Some l → IsSpelled words l
 inside_spelled words text l None w e h = absurd cc
@@ -71,12 +66,6 @@ spelled (lead ∷ key ∷ text ∷ []) l h = lead_spelled lead key text l (bytes
 spelled (lead ∷ key ∷ text ∷ more ∷ words) l h = absurd cc
 
 -- The three keys.
-abbrev sets_by : List ℕ → List (List ℕ) → Bool
-sets_by key words = bytes_eq (word_of words 0) (codes "set") && bytes_eq (word_of words 1) key
-
-abbrev value_by : {V : Type 0} → (List ℕ → Option V) → List ℕ → List (List ℕ) → Option V
-value_by read key words = if sets_by key words then read (word_of words 2) else None
-
 abbrev inside_in : NatLine → Option (ℕ × ℕ)
 inside_in (lines.Inside prefix bits) = Some (prefix, bits)
 inside_in l = None
@@ -149,14 +138,6 @@ ports_same : (l : NatLine) → is_ports l ≡ is_some (ports_in l)
 ports_same (lines.Inside prefix bits) = refl
 ports_same (lines.Public address) = refl
 ports_same (lines.Ports low high) = refl
-
-any_same : (p q : NatLine → Bool) → ((l : NatLine) → p l ≡ q l) → (said : List NatLine) → list_any p said ≡ list_any q said
-any_same p q same [] = refl
-any_same p q same (l ∷ said) = ap (λ b. b || list_any p said) (same l) ∙ ap (λ b. q l || b) (any_same p q same said)
-
-not_none : (b : Bool) → not b ≡ false → b ≡ true
-not_none true h = refl
-not_none false h = absurd cc
 
 settings_same : (s : NatSettings) (i : ℕ × ℕ) (p : ℕ) (r : ℕ × ℕ) → inside_at s ≡ i → s.public_address ≡ p → ports_at s ≡ r →
     s ≡ record { inside = i.0; inside_bits = i.1; public_address = p; low = r.0; high = r.1 }

@@ -15,9 +15,9 @@ nfp runs service chains of network functions over packet captures.
 
   nfp plan POLICY [--graph NAME]
       checks a policy, and prints the order of each chain and what may run side by side
-  nfp run POLICY CAPTURE OUT REPORT [--mergers N] [--burst N] [--merge WAY] [--graph NAME]
+  nfp run POLICY CAPTURE OUT REPORT [--mergers N] [--burst N] [--merge WAY] [--graph NAME] [--sync]
       runs a capture through the chains of a policy: what passes is in OUT, the drops and states are in REPORT
-  nfp flows CAPTURE OUT [--workers N] [--burst N]
+  nfp flows CAPTURE OUT [--workers N] [--burst N] [--sync]
       writes the flows of a capture in the classic format to OUT, as packets of NetFlow version 5
   nfp demo SEED COUNT [--mergers N] [--burst N] [--merge WAY]
       makes a capture of COUNT packets in memory, runs it, and prints how many pass
@@ -27,6 +27,7 @@ nfp runs service chains of network functions over packet captures.
 POLICY, CAPTURE and NAME are read, OUT and REPORT are replaced. After -- each word is a name.
 NAME is a text of graphs written by hand, for chains of the policy.
 N is 1 to 16 for --mergers and --workers (2), and 1 to 65536 packets for --burst (1024). WAY is inbox or board (inbox).
+--sync brings OUT and REPORT to the disk before the line is printed.
 
 Tools, in a clone and once installed; each prints its words with --help:
   nfp explain          which function and which line dropped or changed what

@@ -1,4 +1,4 @@
-//! What the operator is told on standard error, beside the line of an outcome.
+//! The messages on standard error, beside the line of an outcome.
 //!
 //! The line and the status are what the program promises. Where there is no memory for more, or no standard error, there is no more.
 
@@ -24,10 +24,10 @@ const MOST_WORDS: usize = 64;
 /// The longest word that is looked at.
 const LONGEST_WORD: usize = 4096;
 
-/// What is told if memory ran out before there were packets. No memory is needed to tell it.
+/// The message if memory ran out before there were packets. It is printed without memory.
 const NO_MEMORY: &str = "nfp: out of memory; no threads were at work\n";
 
-/// The same if there were packets. A thread that can't be started counts as memory that can't be had.
+/// The message if there were packets. A thread that can't be started counts as memory that can't be had.
 const NO_MEMORY_FOR_PACKETS: &str = "\
 nfp: out of memory; threads may have been at work, and each takes memory of its own
 nfp:   a smaller --burst, --mergers 1 and for flows --workers 1 take less
@@ -39,7 +39,7 @@ const LOCKED: &str = "another run writes it";
 /// Why a file to which standard output leads can't be read.
 const LED: &str = "standard output goes to it, and what is printed would get into it";
 
-/// Tells what to do about an outcome, and why its slot failed, where one did.
+/// Reports what to do about an outcome, and why its slot failed, if one did.
 pub fn tell_more<R: Env + Eprint + AllocGlobal>(
     rt: &R,
     words: &[String],
@@ -58,7 +58,7 @@ pub fn tell_more<R: Env + Eprint + AllocGlobal>(
     }
 }
 
-/// Tells that memory ran out, and whether threads may have been at work then.
+/// Reports that memory ran out, and whether threads may have been at work then.
 pub fn tell_memory(rt: &impl Eprint, has_packets: bool) {
     let _ = rt.eprint(if has_packets {
         NO_MEMORY_FOR_PACKETS
@@ -103,7 +103,7 @@ fn captured(seen: &Seen) -> Captured<'_> {
     }
 }
 
-// A file that can't be read. Nothing is told if standard error leads to it, since it would get into the file.
+// A file that can't be read. Nothing is printed if standard error leads to it, since it would get into the file.
 fn unread_help(page: &mut Page, seen: &Seen, slot: Slot, reason: Option<Reason>) {
     match (seen.name(slot), reason) {
         (None, _) | (_, Some(Reason::StandardError | Reason::BothStreams)) => {}
@@ -173,7 +173,7 @@ fn number_help(page: &mut Page, which: Option4) {
     }
 }
 
-// Tells the first word of the command line that isn't UTF-8, where there is one.
+// Reports the first word of the command line that isn't UTF-8, if there is one. Returns whether there is.
 fn foreign_word<R: Env>(page: &mut Page, rt: &R) -> bool {
     let mut buffer = [0u8; LONGEST_WORD];
     for place in 1..MOST_WORDS {

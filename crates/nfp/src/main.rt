@@ -5,19 +5,21 @@
 //! What that call promises is the program's theorem. If bytes that the desk had gathered for a file were lost, the call
 //! printed no line, and the program prints the one that names that file.
 //!
-//! Words that ask for help or for the version are answered before that call, which takes none of them for a command.
+//! Words that ask for help or for the version are answered before that call, which takes none of them for a command. The
+//! option `--sync` of `run` and `flows` is taken out of the words before it, and sets the desk ([`sync`]).
 //!
 //! The desk is watched. If the environment has `NFP_PROGRESS=1` and standard error is a terminal, a long run shows its
 //! progress there. Standard error also says what to do about an outcome. Nothing is promised of either.
 #![tactic(auto)]
 
-ghost use Rattle.std.specs.Prelude.{◌≡◌, ◌≢◌};
-ghost use Rattle.file_desk.specs.Desks.{IsAllWritten};
+ghost use Rattle.std.specs.Prelude.{◌≡◌, ◌≢◌, true};
+ghost use Rattle.file_desk.specs.Desks.{IsAllSynced, IsAllWritten};
 
 mod asked;
 mod build;
 mod help;
 mod odd;
+mod sync;
 
 use asked::{answer, is_demo, question_in};
 use file_desk::{FileDesk, Host, Reason, System};
@@ -30,6 +32,7 @@ use std::io::{ErrorKind, IsTerminal, Write};
 use std::process::ExitCode;
 use std::rt::{Clock, Env, Files};
 use std::{env, fs, io, str};
+use sync::take_sync;
 use watched_desk::{Progress, Seen, Watch, Watched};
 
 /// The length of the longest word that is a command.
@@ -49,9 +52,11 @@ fn main(rt: HostRuntime) -> ExitCode {
     }
     let files: Result<_, _> = rt.clone();
     let outcome = match (words, files) {
-        (Ok(words), Ok(files)) => {
+        (Ok(mut words), Ok(files)) => {
             let watch = watch(&rt, rt.stderr().is_terminal());
-            let mut desk = Watched::new(FileDesk::new(Host::new(files)), watch);
+            let mut files = FileDesk::new(Host::new(files));
+            files.set_sync(take_sync(&mut words));
+            let mut desk = Watched::new(files, watch);
             let outcome = nfp(&rt, rt.alloc(), &words, &mut desk, &OpenGate);
             let (mut files, watch) = desk.into_parts();
             let seen = watch.end();
@@ -111,7 +116,7 @@ fn wants_progress(rt: &impl Env) -> bool {
     matches!(rt.var("NFP_PROGRESS", &mut value), Ok(1)) && value[0] == b'1'
 }
 
-// The outcome of the program. If gathered bytes were lost, Note has taken nothing, and the line of the first slot that failed is
+// The outcome of the program. If gathered bytes were lost, or can't be brought to the disk, Note has taken nothing, and the line of the first slot that failed is
 // printed here: one that had failed at a call of its own before, or else the one that lost them. Nothing is printed once
 // memory ran out.
 fn end<S: System + Drop>(
@@ -120,7 +125,9 @@ fn end<S: System + Drop>(
     outcome: Outcome,
 ) -> Outcome
     // Done says that the files of Out and Report, where they are attached, hold all that was put into them.
-    ensures { result ≡ Outcome.Done → IsAllWritten S.Output.contents desk.new }
+    ensures written { result ≡ Outcome.Done → IsAllWritten S.Output.contents desk.new }
+    // With `--sync` it also says that all of it was brought to the disk.
+    ensures synced { result ≡ Outcome.Done → desk.old.syncs ≡ true → IsAllSynced S.Output.on_disk desk.new }
 {
     match (desk.hand_on(), outcome) {
         (None, Outcome::Done) => match desk.unwritten() {

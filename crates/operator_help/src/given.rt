@@ -15,6 +15,11 @@ const TWICE: &str = "`{}` is given twice";
 
 const NO_VALUE: &str = "`{}` has no value";
 
+const NO_VALUE_DUE: &str = "`{}` takes no value";
+
+/// The option that the program takes out of the words of a command that writes OUT, once.
+const SYNC: &[u8] = b"--sync";
+
 const TOO_MANY: &str = "`{}` is a name too many: `{}` has {}";
 
 const JOIN: &str =
@@ -171,6 +176,14 @@ impl Reading {
         let option = &word[..until(word, b'=')];
         match place_in(self.form.options, option) {
             Some((place, option)) => self.takes_once(page, word, place, option),
+            None if option == SYNC && self.form.names.contains(&"OUT") => {
+                let text = if option.len() < word.len() {
+                    NO_VALUE_DUE
+                } else {
+                    TWICE
+                };
+                tell_word(page, text, option)
+            }
             None => self.no_option(page, option),
         }
     }
