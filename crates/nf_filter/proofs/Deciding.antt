@@ -12,11 +12,8 @@ use Rattle.nf_filter.specs.declared.firewall.Firewall.{Firewall}
 use Rattle.nf_filter.specs.declared.firewall.Rule.{Rule}
 use Rattle.nf_filter.specs.Deciding.{IsFirstMet, MeetsNone}
 use Rattle.nf_filter.specs.Firewalls.{all_seen, firewall_behaviour, passes}
+use Rattle.nf_filter.specs.Places.{neither}
 use Rattle.nf_filter.specs.Verdicts.{verdict_by}
-
-neither : (a b : Bool) → (a || b) ≡ false → (a ≡ false) × (b ≡ false)
-neither true b h = absurd cc
-neither false b h = (refl, h)
 
 module _ (p : Rule → Bool) where
   found_first : (before behind : List Rule) (rule : Rule) → list_any p before ≡ false → p rule ≡ true → find p (before ++ rule ∷ behind) ≡ Some rule

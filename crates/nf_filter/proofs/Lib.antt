@@ -1,4 +1,6 @@
+pub mod AllShown
 pub mod Deciding
+pub mod DecidingLines
 pub mod FirewallRows
 pub mod Guards
 pub mod SignatureRows

@@ -11,7 +11,10 @@ use Rattle.chain_walk.specs.declared.verdict.Verdict.{Verdict}
 use Rattle.chain_walk.specs.declared.verdict.Verdict.TheVariants.{Pass, Drop}
 use Rattle.function_lines.specs.KindLines.{refused_line}
 use Rattle.patterns.specs.Lines.{line_of, pattern_lines}
-use Rattle.nf_filter.specs.Signatures.{signature_of, signature_behaviour}
+use Rattle.packet_function.specs.Deciding.{decided as decided_by}
+use Rattle.packet_function.specs.declared.deciding.DecidingLine.{DecidingLine}
+use Rattle.packet_function.specs.declared.deciding.DecidingLine.TheVariants as deciding
+use Rattle.nf_filter.specs.Signatures.{signature_of, signature_behaviour, signature_decides}
 
 -- the patterns `evil` and `worse`
 declared : FunctionDecl
@@ -55,3 +58,19 @@ none_found = refl
 without_payload : decided None ≡ Pass
 unfolding line_of declared packet decided udp
 without_payload = refl
+
+-- the first pattern that occurs decides, wherever it stands
+deciding_lines : Option (List ℕ) → List DecidingLine
+deciding_lines payload = decided_by signature_behaviour signature_decides udp (signature_of declared) (packet payload)
+
+first_decides : deciding_lines (Some (codes "worse than evil")) ≡ deciding.Rule 0 ∷ []
+unfolding line_of declared packet deciding_lines udp
+first_decides = refl
+
+second_decides : deciding_lines (Some (codes "much worse")) ≡ deciding.Rule 1 ∷ []
+unfolding line_of declared packet deciding_lines udp
+second_decides = refl
+
+none_decides : deciding_lines (Some (codes "my secret evi")) ≡ []
+unfolding line_of declared packet deciding_lines udp
+none_decides = refl

@@ -1,14 +1,19 @@
 -- Believed: a firewall: how it is declared, what it decides, and what it does as a function of a chain.
-use Rattle.std.specs.Prelude.{List, [], ◌∷◌, ◌++◌, Bool, true, fold}
+use Rattle.std.specs.Prelude.{ℕ, List, [], ◌∷◌, ◌++◌, Bool, true, Option, Some, None, fold, position}
 use Rattle.std.specs.Option.{option_map_or}
 use Rattle.policy_text.specs.declared.policy.FunctionDecl.{FunctionDecl}
 use Rattle.policy_text.specs.declared.seen.Seen.{Seen}
+use Rattle.policy_text.specs.Meeting.{is_fitting}
 use Rattle.frame_seen.specs.Seeing.{seen_with}
 use Rattle.action_profile.specs.Profiles.{profile_of}
 use Rattle.action_profile.specs.declared.kind.Kind.TheVariants as kinds
 use Rattle.chain_walk.specs.Shown.{Shown, Values}
 use Rattle.chain_walk.specs.declared.fixed.Fixed.{Fixed}
 use Rattle.chain_walk.specs.Step.{Step, Behaviour, nothing}
+use Rattle.packet_function.specs.Deciding.{Deciding}
+use Rattle.packet_function.specs.declared.deciding.DecidingLine.{DecidingLine}
+use Rattle.packet_function.specs.declared.deciding.DecidingLine.TheVariants as deciding
+use Rattle.packet_function.specs.declared.deciding.SettingKey.TheVariants as keys
 use Rattle.function_lines.specs.KindLines.{said_by}
 use Rattle.function_lines.specs.Rules.{first_met}
 use Rattle.nf_filter.specs.declared.firewall.Firewall.{Firewall}
@@ -45,6 +50,15 @@ all_seen values fixed = seen_with values fixed.ether_type fixed.proto fixed.tcp_
 -- a firewall judges by what it is shown, writes nothing, and stays unchanged
 abbrev pub firewall_step : Firewall → Shown → Step Firewall
 firewall_step f shown = record { after = f; verdict = verdict_by (passes f (all_seen shown.values shown.fixed)); written = nothing }
+
+-- the line of the rule at this place, and else `set default`
+abbrev pub line_at : Option ℕ → DecidingLine
+line_at (Some place) = deciding.Rule place
+line_at None = deciding.Set keys.Default
+
+-- the line of the first rule whose clauses are all met decides, and else `set default`
+abbrev pub firewall_decides : Deciding Firewall
+firewall_decides f shown = line_at (position (λ rule. is_fitting rule.fit (all_seen shown.values shown.fixed)) f.rules) ∷ []
 
 -- how firewalls behave
 abbrev pub firewall_behaviour : Behaviour Firewall

@@ -3,6 +3,7 @@ pub mod Firewalls
 pub mod Guards
 pub mod FirewallLaws
 pub mod Lines
+pub mod Places
 pub mod Signatures
 pub mod SignatureLaws
 pub mod Verdicts

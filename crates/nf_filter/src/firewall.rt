@@ -5,6 +5,7 @@ use chain_walk::Verdict;
 use frame_seen::{seen_address, seen_address6, seen_port, seen_tags};
 use function_lines::{Asked, FitRules, Fitting};
 use packet_fields::Field;
+use packet_function::{DecidingLine, SettingKey};
 use packet_version::{View, unwritten_stays};
 use policy_text::{Match, Seen, fits};
 use std::alloc::AllocError;
@@ -102,12 +103,14 @@ impl Firewall {
 }
 
 impl Firewall {
-    ghost use Rattle.std.specs.Prelude.{◌≡◌, Ok, true, is_ok};
+    ghost use Rattle.std.specs.Prelude.{◌≡◌, ◌++◌, Ok, true, is_ok, position, OnOk, OnErr};
+    ghost use Rattle.policy_text.specs.Meeting.{is_fitting};
+    ghost use Rattle.packet_function.specs.Deciding.{decided};
     ghost use Rattle.action_profile.specs.Profiles.{profile_of};
     ghost use Rattle.action_profile.specs.declared.kind.Kind.{Kind};
     ghost use Rattle.nf_filter.specs.Firewalls.{all_seen};
     ghost use Rattle.packet_version.specs.Views.{seen_values, viewed, wrote_all};
-    ghost use Rattle.nf_filter.specs.Firewalls.{firewall_behaviour, passes};
+    ghost use Rattle.nf_filter.specs.Firewalls.{firewall_behaviour, firewall_decides, line_at, passes};
 
     /// Judges one packet through a view of a firewall's profile. It writes nothing and allocates nothing.
     pub fn step(&mut self, view: &mut View) -> Result<Verdict, AllocError>
@@ -131,6 +134,29 @@ impl Firewall {
         self.judge(&seen_in(view, asked))
     }
 
+    /// Appends the line that decides on one packet, which it sees through a view of a firewall's profile: that of the
+    /// first rule of which the packet meets all clauses, or `set default` if it meets no rule. If memory runs out, it
+    /// appends nothing.
+    pub fn decide(&self, view: &View, deciding: &mut Vec<DecidingLine>) -> Result<(), AllocError>
+        requires profile { view.now.profile ≡ firewall_behaviour.profile self.now }
+        ensures decided { OnOk result (deciding.new.items ≡
+            deciding.old.items ++ decided firewall_behaviour firewall_decides view.now.version.fixed self.now (seen_values view.now)) }
+        ensures stays { OnErr result (deciding.new.items ≡ deciding.old.items) }
+    {
+        deciding.push(self.deciding_line(&all_in(view)))?;
+        Ok(())
+    }
+
+    // The line that decides on a packet with these values.
+    fn deciding_line(&self, seen: &Seen) -> DecidingLine
+        ensures { result ≡ line_at (position (λ rule. is_fitting rule.fit seen.now) self.now.rules) }
+    {
+        match first_place(self.rules.as_slice(), seen) {
+            Some(place) => DecidingLine::Rule(place),
+            None => DecidingLine::Set(SettingKey::Default),
+        }
+    }
+
     /// Appends the lines of its state, which a firewall doesn't have.
     pub fn state_lines(&self, _out: &mut Vec<u8>) -> Result<(), AllocError>
         ensures none { _out.new ≡ _out.old }
@@ -140,12 +166,13 @@ impl Firewall {
     }
 }
 
-ghost use Rattle.std.specs.Prelude.{◌≡◌, true, length, IfSome};
+ghost use Rattle.std.specs.Prelude.{◌≡◌, true, length, position, IfSome};
 ghost use Rattle.std.specs.Option.{option_copied};
 ghost use Rattle.packet_fields.specs.Fields.{IsLengthOf};
 ghost use Rattle.action_profile.specs.Profiles.{profile_of, reads_of};
 ghost use Rattle.action_profile.specs.declared.kind.Kind.{Kind};
 ghost use Rattle.nf_filter.specs.Firewalls.{all_seen};
+ghost use Rattle.policy_text.specs.Meeting.{is_fitting};
 ghost use Rattle.function_lines.specs.Asking.{Shows};
 ghost use Rattle.function_lines.specs.Rules.{first_met};
 ghost use Rattle.packet_version.specs.Views.{seen_values};
@@ -155,6 +182,29 @@ fn first_met<'a>(rules: &'a [GuardedRule], seen: &Seen) -> Option<&'a GuardedRul
     ensures { option_copied result ≡ first_met (λ rule. rule.fit) seen.now rules.now }
 {
     rules.iter().find(|rule| rule.is_met_by(seen))
+}
+
+/// The place of that rule, counted from 0.
+fn first_place(rules: &[GuardedRule], seen: &Seen) -> Option<usize>
+    ensures { result ≡ position (λ rule. is_fitting rule.fit seen.now) rules.now }
+{
+    rules.iter().position(|rule| rule.is_met_by(seen))
+}
+
+/// All values of the packet of a view.
+#[tactic(auto, using(crate::proofs::AllShown::all_shown))]
+fn all_in(view: &View) -> Seen
+    requires profile { view.now.profile ≡ profile_of Kind.Firewall }
+    ensures { result ≡ all_seen (seen_values view.now) view.now.version.fixed }
+{
+    let all = Asked {
+        tag: true,
+        source: true,
+        destination: true,
+        source_port: true,
+        destination_port: true,
+    };
+    seen_in(view, all)
 }
 
 /// The values of the packet of a view that these clauses need.

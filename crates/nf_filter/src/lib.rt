@@ -18,6 +18,11 @@
 //! `signature_keeps` of `specs/SignatureLaws.antt` says that it keeps to its profile. A pattern that begins in one
 //! packet and ends in another is not found: no packet is remembered.
 //!
+//! Which line of its declaration decides on a packet is told by [`Firewall::decide`] and [`Signature::decide`]
+//! (`firewall_decides` and `signature_decides` of the same specs): the line of the first rule that is met or
+//! `set default`, and the line of the first pattern that occurs. [`a_packet_is_dropped_where_the_deciding_line_denies`]
+//! and [`a_packet_is_dropped_where_the_line_of_a_pattern_decides`] say that these lines do what the step does.
+//!
 //! Neither keeps a state, so the same function may be in several places: [`Firewall::try_clone`] and
 //! [`Signature::try_clone`] return one more of it, over the same rules or patterns in memory.
 #![tactic(auto)]
@@ -31,5 +36,8 @@ mod signature;
 mod verdict;
 
 pub use firewall::{Firewall, GuardedRule, Rule};
-pub use laws::the_first_rule_that_is_met_decides;
+pub use laws::{
+    a_packet_is_dropped_where_the_deciding_line_denies,
+    a_packet_is_dropped_where_the_line_of_a_pattern_decides, the_first_rule_that_is_met_decides,
+};
 pub use signature::Signature;

@@ -3,6 +3,7 @@ use crate::verdict::verdict;
 use chain_walk::Verdict;
 use function_lines::read_lines;
 use packet_fields::Field;
+use packet_function::DecidingLine;
 use packet_version::{View, unwritten_stays};
 use patterns::{Pattern, PatternSet, first_occurring};
 use policy_text::{BuildFault, FunctionDecl};
@@ -16,12 +17,13 @@ pub struct Signature {
 }
 
 impl Signature {
-    ghost use Rattle.std.specs.Prelude.{◌≡◌, Ok, true, is_ok, IfOk};
+    ghost use Rattle.std.specs.Prelude.{◌≡◌, ◌++◌, Ok, true, is_ok, IfOk, OnOk, OnErr};
     ghost use Rattle.action_profile.specs.declared.kind.Kind.{Kind};
-    ghost use Rattle.packet_version.specs.Views.{viewed, wrote_all};
+    ghost use Rattle.packet_version.specs.Views.{seen_values, viewed, wrote_all};
+    ghost use Rattle.packet_function.specs.Deciding.{decided};
     ghost use Rattle.function_lines.specs.Builds.{Builds};
     ghost use Rattle.patterns.specs.Lines.{pattern_lines};
-    ghost use Rattle.nf_filter.specs.Signatures.{signature_by, signature_behaviour};
+    ghost use Rattle.nf_filter.specs.Signatures.{signature_by, signature_behaviour, signature_decides};
 
     /// Makes the signature that is declared, or returns the least line of the declaration that is refused: one that
     /// isn't a `rule` with a pattern.
@@ -58,6 +60,20 @@ impl Signature {
         Ok(verdict(passes))
     }
 
+    /// Appends the line that decides on one packet, which it sees through a view of a signature's profile: that of the
+    /// first pattern that occurs in the payload, or none if no pattern does. If memory runs out, it appends nothing.
+    pub fn decide(&self, view: &View, deciding: &mut Vec<DecidingLine>) -> Result<(), AllocError>
+        requires profile { view.now.profile ≡ signature_behaviour.profile self.now }
+        ensures decided { OnOk result (deciding.new.items ≡
+            deciding.old.items ++ decided signature_behaviour signature_decides view.now.version.fixed self.now (seen_values view.now)) }
+        ensures stays { OnErr result (deciding.new.items ≡ deciding.old.items) }
+    {
+        if let Some(place) = place_found(&self.patterns, view.get(Field::Payload)) {
+            deciding.push(DecidingLine::Rule(place))?;
+        }
+        Ok(())
+    }
+
     /// Appends the lines of its state, which a signature doesn't have.
     pub fn state_lines(&self, _out: &mut Vec<u8>) -> Result<(), AllocError>
         ensures none { _out.new ≡ _out.old }
@@ -69,7 +85,7 @@ impl Signature {
 
 ghost use Rattle.std.specs.Prelude.{◌≡◌};
 ghost use Rattle.std.specs.Option.{option_copied};
-ghost use Rattle.nf_filter.specs.Signatures.{is_found};
+ghost use Rattle.nf_filter.specs.Signatures.{is_found, place_found};
 
 /// Does one of the patterns occur in the payload, if there is one?
 fn is_found(patterns: &PatternSet, payload: Option<&[u8]>) -> bool
@@ -79,4 +95,11 @@ fn is_found(patterns: &PatternSet, payload: Option<&[u8]>) -> bool
         Some(payload) => first_occurring(patterns, payload).is_some(),
         None => false,
     }
+}
+
+/// The place of the first pattern that occurs in the payload, if there is one.
+fn place_found(patterns: &PatternSet, payload: Option<&[u8]>) -> Option<usize>
+    ensures { result ≡ place_found patterns.now (option_copied payload.entry) }
+{
+    first_occurring(patterns, payload?)
 }

@@ -15,7 +15,10 @@ use Rattle.chain_walk.specs.declared.fixed.Fixed.{Fixed}
 use Rattle.function_lines.specs.KindLines.{refused_line, refused_lines}
 use Rattle.first_sight.specs.Addresses.{dotted}
 use Rattle.nf_translate.specs.BalancerLines.{line_of, balancer_lines}
-use Rattle.nf_translate.specs.Balancers.{PlainBalancer, balancer_of, balancer_behaviour, flow_line, flow_lines}
+use Rattle.packet_function.specs.Deciding.{decided}
+use Rattle.packet_function.specs.declared.deciding.DecidingLine.{DecidingLine}
+use Rattle.packet_function.specs.declared.deciding.DecidingLine.TheVariants.{Rule}
+use Rattle.nf_translate.specs.Balancers.{PlainBalancer, balancer_of, balancer_behaviour, balancer_decides, flow_line, flow_lines}
 
 -- 10.0.0.1, and the backends 10.0.1.1 and 10.0.1.2
 declared : FunctionDecl
@@ -164,3 +167,24 @@ first_counts = refl
 unread : refused_lines balancer_lines (lines (vip 4 (codes "10.0.0") ∷ backend 5 (codes "10.0.1.1") ∷ backend 6 (codes "2001:db8::9") ∷ [])) ≡ 4 ∷ 3 ∷ []
 unfolding line_of address6_of lines vip backend
 unread = refl
+
+-- the lines that decide: the backends take turns, and a flow that is known stays with its backend
+decided_by : PlainBalancer → Values → List DecidingLine
+decided_by b v = decided balancer_behaviour balancer_decides tcp b v
+
+first_by : decided_by (balancer_of declared) first ≡ Rule 0 ∷ []
+unfolding line_of declared decided_by first packet tcp
+first_by = refl
+
+second_by : decided_by once other ≡ Rule 1 ∷ []
+unfolding line_of declared decided_by step once first other packet tcp
+second_by = refl
+
+again_by : decided_by twice first ≡ Rule 0 ∷ []
+unfolding line_of declared decided_by step twice once first other packet tcp
+again_by = refl
+
+-- no line decides on a packet to another address
+passed_by_none : decided_by once (packet (192 ∷ 168 ∷ 0 ∷ 9 ∷ []) (1 ∷ 0 ∷ []) (10 ∷ 0 ∷ 0 ∷ 2 ∷ [])) ≡ []
+unfolding line_of declared decided_by step once first packet tcp
+passed_by_none = refl

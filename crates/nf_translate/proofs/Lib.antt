@@ -1,5 +1,6 @@
 pub mod BalancerRows
 pub mod Building
+pub mod DecidingLines
 pub mod Known
 pub mod NatRows
 pub mod NoNewKey

@@ -12,7 +12,11 @@ use Rattle.chain_walk.specs.declared.verdict.Verdict.TheVariants.{Drop}
 use Rattle.function_lines.specs.KindLines.{refused_line}
 use Rattle.first_sight.specs.Addresses.{dotted}
 use Rattle.nf_translate.specs.NatLines.{line_of, nat_lines}
-use Rattle.nf_translate.specs.Nats.{PlainNat, nat_of, nat_behaviour, mapping_line, mapping_lines, passed}
+use Rattle.packet_function.specs.Deciding.{decided}
+use Rattle.packet_function.specs.declared.deciding.DecidingLine.{DecidingLine}
+use Rattle.packet_function.specs.declared.deciding.DecidingLine.TheVariants as deciding
+use Rattle.packet_function.specs.declared.deciding.SettingKey.TheVariants as keys
+use Rattle.nf_translate.specs.Nats.{PlainNat, nat_of, nat_behaviour, nat_decides, mapping_line, mapping_lines, passed}
 
 -- 10.0.0.0/8 inside, and the ports 4000 and 4001 of 203.0.113.1
 declared : FunctionDecl
@@ -129,3 +133,28 @@ passes6 = refl
 two_lines : mapping_lines twice ≡ codes "  map 6 10.0.0.5 256 port 4000\n  map 6 10.0.0.6 256 port 4001\n"
 unfolding line_of declared step twice once leaves packet with_protocol mapping_line dotted digits
 two_lines = refl
+
+-- the lines that decide: a known endpoint leaves by `set inside`, and for a third the ports ran out
+lines : PlainNat → ℕ → Values → List DecidingLine
+lines n proto v = decided nat_behaviour nat_decides (with_protocol proto) n v
+
+leaves_by : lines twice 6 (leaves 5) ≡ deciding.Set keys.Inside ∷ []
+unfolding line_of declared lines step twice once leaves packet with_protocol
+leaves_by = refl
+
+ran_out_by : lines twice 6 (leaves 7) ≡ deciding.Set keys.Ports ∷ []
+unfolding line_of declared lines step twice once leaves packet with_protocol
+ran_out_by = refl
+
+-- a reply comes in by `set public`, and the declaration drops what is sent to nobody
+back_by : lines twice 6 returns ≡ deciding.Set keys.Public ∷ []
+unfolding line_of declared lines step twice once leaves returns packet with_protocol
+back_by = refl
+
+nobody_by : lines (nat_of declared) 6 returns ≡ deciding.Declaration ∷ []
+unfolding line_of declared lines returns packet with_protocol
+nobody_by = refl
+
+passes6_by : lines twice 17 (packet (address6 1) (1 ∷ 0 ∷ []) (address6 2) (15 ∷ 160 ∷ [])) ≡ []
+unfolding lines address6 packet with_protocol
+passes6_by = refl

@@ -146,7 +146,7 @@ pub takes_turn : (b : PlainBalancer) (destination : Option (List ℕ)) (flow : C
 takes_turn b destination flow new = ap (λ place. to_address (backend_at b.settings place) destination) (new_place is_same_client b.flows flow new)
 
 -- in the order of the list
-item_at : {X : Type 0} (items : List X) (place : ℕ) (other : X) → place < length items → slice_get items place ≡ Some (slice_index_or items place other)
+pub item_at : {X : Type 0} (items : List X) (place : ℕ) (other : X) → place < length items → slice_get items place ≡ Some (slice_index_or items place other)
 item_at [] place other inside = absurd (omega (arith, inside))
 item_at (x ∷ items) zero other inside = refl
 item_at (x ∷ items) (suc place) other inside = item_at items place other (omega (arith, inside))

@@ -1,6 +1,6 @@
--- For proofs: a balancer does what its profile says, and no more.
+-- For proofs: a balancer does what its profile says, and no more, and drops nothing.
 use Rattle.std.specs.Prelude.{◌≡◌, ◌≤◌, ◌+◌, ℕ, List, Bool, true, false, ◌&&◌, ◌==◌, if◌then◌else◌, length, Option, Some, None, is_some, IfSome, IsSomeAnd, refl}
-use Rattle.std.proofs.Common.{sym, subst, true≢false}
+use Rattle.std.proofs.Common.{◌∙◌, sym, subst, true≢false}
 use Rattle.std.proofs.lemmas.Bool.{eqb-true}
 use Rattle.packet_fields.specs.Fields.{IsLengthOf}
 use Rattle.packet_fields.specs.Frames.{is_tag_list}
@@ -13,7 +13,8 @@ use Rattle.chain_walk.specs.Laws.{KeepsProfile}
 use Rattle.chain_walk.specs.declared.fixed.Fixed.{Fixed}
 use Rattle.packet_version.specs.Parts.{is_field}
 use Rattle.nf_translate.specs.declared.client.Client.{Client}
-use Rattle.nf_translate.specs.Balancers.{PlainBalancer, in_place_of, balanced, balancer_behaviour}
+use Rattle.packet_function.specs.Deciding.{DecidesDrops}
+use Rattle.nf_translate.specs.Balancers.{PlainBalancer, in_place_of, balanced, balancer_behaviour, balancer_decides}
 
 passes : (b : PlainBalancer) (destination : Option (List ℕ)) (flow : Option Client) → is_drop (balanced b destination flow).verdict ≡ false
 passes b destination None = refl
@@ -94,3 +95,6 @@ balancer_keeps = record {
   adds = λ fixed f v h. absurd cc;
   removes = λ fixed f v h. absurd cc;
 }
+
+pub balancer_decides_drops : DecidesDrops balancer_behaviour balancer_decides
+balancer_decides_drops = record { one = λ fixed b v drops. absurd (true≢false (sym drops ∙ passes b _ _)) }

@@ -1,5 +1,5 @@
 -- Believed: a balancer: how it is declared, what it does as a function of a chain, and the lines of its state.
-use Rattle.std.specs.Prelude.{ℕ, ◌%◌, List, [], ◌∷◌, length, slice_index_or, ◌==◌, if◌then◌else◌, Option, Some, None, filter_map, codes}
+use Rattle.std.specs.Prelude.{ℕ, ◌%◌, List, [], ◌∷◌, length, slice_index_or, ◌==◌, if◌then◌else◌, Option, Some, None, is_some, filter_map, codes}
 use Rattle.std.specs.Option.{option_and_then, unwrap_or}
 use Rattle.std.specs.Fmt.{decimal}
 use Rattle.std.specs.declared.net.ip_addr.IpAddr.{IpAddr}
@@ -11,6 +11,9 @@ use Rattle.action_profile.specs.declared.kind.Kind.TheVariants as kinds
 use Rattle.chain_walk.specs.Shown.{Shown, Values}
 use Rattle.chain_walk.specs.Step.{Step, Behaviour, nothing}
 use Rattle.chain_walk.specs.declared.verdict.Verdict.TheVariants.{Pass}
+use Rattle.packet_function.specs.Deciding.{Deciding}
+use Rattle.packet_function.specs.declared.deciding.DecidingLine.{DecidingLine}
+use Rattle.packet_function.specs.declared.deciding.DecidingLine.TheVariants.{Rule}
 use Rattle.function_lines.specs.KindLines.{said_by}
 use Rattle.text_lines.specs.Texts.{line_of}
 use Rattle.first_sight.specs.Addresses.{address_text}
@@ -65,6 +68,15 @@ balanced b destination None = record { after = b; verdict = Pass; written = noth
 
 abbrev pub balancer_step : PlainBalancer → Shown → Step PlainBalancer
 balancer_step b shown = balanced b (shown.values DstIp) (flow_of b.settings shown.values shown.fixed.proto)
+
+-- the line of the flow's backend decides if the backend's address is written, and no line decides on any other packet
+abbrev pub balanced_by : PlainBalancer → Option (List ℕ) → Option Client → List DecidingLine
+balanced_by b destination (Some flow) =
+    if is_some (in_place_of destination (ip_address_bytes (backend_at b.settings (place_of b.flows flow)))) then Rule (place_of b.flows flow % length b.settings.backends) ∷ [] else []
+balanced_by b destination None = []
+
+abbrev pub balancer_decides : Deciding PlainBalancer
+balancer_decides b shown = balanced_by b (shown.values DstIp) (flow_of b.settings shown.values shown.fixed.proto)
 
 -- how balancers behave
 abbrev pub balancer_behaviour : Behaviour PlainBalancer

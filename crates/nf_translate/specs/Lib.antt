@@ -1,4 +1,5 @@
 pub mod Addresses
+pub mod Deciding
 pub mod Endpoints
 pub mod Clients
 pub mod ClientLaws

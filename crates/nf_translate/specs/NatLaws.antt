@@ -1,5 +1,5 @@
--- For proofs: a translation does what its profile says, and no more.
-use Rattle.std.specs.Prelude.{◌≡◌, ◌≤◌, ◌+◌, ℕ, List, Bool, true, false, ◌&&◌, ◌==◌, if◌then◌else◌, length, Option, Some, None, is_some, IfSome, IsSomeAnd, refl}
+-- For proofs: a translation does what its profile says, and no more, and one line decides on each drop.
+use Rattle.std.specs.Prelude.{◌≡◌, ◌≤◌, ◌+◌, ℕ, List, [], ◌∷◌, Bool, true, false, ◌&&◌, ◌==◌, if◌then◌else◌, length, Option, Some, None, is_some, IfSome, IsSomeAnd, refl}
 use Rattle.std.specs.Option.{option_map, option_and_then}
 use Rattle.std.proofs.Common.{◌∙◌, sym, subst, true≢false}
 use Rattle.std.proofs.lemmas.Bool.{eqb-true}
@@ -14,12 +14,13 @@ use Rattle.policy_text.specs.declared.seen.TagSeen.{TagSeen}
 use Rattle.policy_text.specs.declared.seen.TagSeen.TheVariants.{Absent}
 use Rattle.action_profile.specs.Profiles.{writes_of}
 use Rattle.chain_walk.specs.Shown.{Values}
-use Rattle.chain_walk.specs.Step.{Step, stepped}
+use Rattle.chain_walk.specs.Step.{Step, stepped, is_drop}
 use Rattle.chain_walk.specs.Laws.{KeepsProfile}
 use Rattle.chain_walk.specs.declared.fixed.Fixed.{Fixed}
 use Rattle.nf_translate.specs.declared.endpoint.Endpoint.{Endpoint}
 use Rattle.nf_translate.specs.Endpoints.{place_of, ends_of}
-use Rattle.nf_translate.specs.Nats.{PlainNat, from, to, passed, port_at, leaving, coming, mapped, translated, nat_behaviour}
+use Rattle.packet_function.specs.Deciding.{DecidesDrops}
+use Rattle.nf_translate.specs.Nats.{PlainNat, from, to, passed, port_at, leaving, coming, mapped, translated, out_by, in_by, translated_by, nat_behaviour, nat_decides}
 
 -- a field of one of a packet's two ends
 abbrev is_end : Field → Bool
@@ -202,3 +203,18 @@ nat_keeps = record {
   adds = λ fixed f v h. absurd cc;
   removes = λ fixed f v h. absurd cc;
 }
+
+-- a packet on which no line decides passes
+drop_once : (n : PlainNat) (ends : Option (Endpoint × Endpoint)) → is_drop (translated n ends).verdict ≡ true → length (translated_by n ends) ≡ 1
+drop_once n None drops = absurd (true≢false (sym drops))
+drop_once n (Some ends) drops = by (is_within n.settings.inside n.settings.inside_bits ends.0.address) (ends.1.address == n.settings.public_address) drops
+  where
+    by : (inside public : Bool) →
+        is_drop (if inside then leaving n ends.0 (port_at n.settings (place_of n.mappings ends.0)) else if public then coming n (mapped n ends.1) else passed n).verdict ≡ true →
+        length (if inside then out_by (port_at n.settings (place_of n.mappings ends.0)) ∷ [] else if public then in_by (mapped n ends.1) ∷ [] else []) ≡ 1
+    by true public drops = refl
+    by false true drops = refl
+    by false false drops = absurd (true≢false (sym drops))
+
+pub nat_decides_drops : DecidesDrops nat_behaviour nat_decides
+nat_decides_drops = record { one = λ fixed n v drops. drop_once n _ drops }

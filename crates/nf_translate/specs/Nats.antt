@@ -11,6 +11,10 @@ use Rattle.action_profile.specs.declared.kind.Kind.TheVariants as kinds
 use Rattle.chain_walk.specs.Shown.{Shown, Values}
 use Rattle.chain_walk.specs.Step.{Step, Behaviour, nothing}
 use Rattle.chain_walk.specs.declared.verdict.Verdict.TheVariants.{Pass, Drop}
+use Rattle.packet_function.specs.Deciding.{Deciding}
+use Rattle.packet_function.specs.declared.deciding.DecidingLine.{DecidingLine}
+use Rattle.packet_function.specs.declared.deciding.DecidingLine.TheVariants as deciding
+use Rattle.packet_function.specs.declared.deciding.SettingKey.TheVariants as keys
 use Rattle.function_lines.specs.KindLines.{said_by}
 use Rattle.text_lines.specs.Texts.{line_of}
 use Rattle.first_sight.specs.Addresses.{dotted}
@@ -108,6 +112,26 @@ translated n None = passed n
 -- a packet of IPv6 has no such ends, so it passes
 abbrev pub nat_step : PlainNat → Shown → Step PlainNat
 nat_step n shown = translated n (ends_of (seen_by shown.values shown.fixed.proto))
+
+-- a packet from inside: `set inside` lets it out, and `set ports` drops it if no port is left
+abbrev pub out_by : Option ℕ → DecidingLine
+out_by (Some port) = deciding.Set keys.Inside
+out_by None = deciding.Set keys.Ports
+
+-- a packet to the public address: `set public` lets it in, and the declaration drops it if nobody has the port
+abbrev pub in_by : Option Endpoint → DecidingLine
+in_by (Some inside) = deciding.Set keys.Public
+in_by None = deciding.Declaration
+
+-- no line decides on any other packet
+abbrev pub translated_by : PlainNat → Option (Endpoint × Endpoint) → List DecidingLine
+translated_by n (Some ends) =
+    if is_within n.settings.inside n.settings.inside_bits ends.0.address then out_by (port_at n.settings (place_of n.mappings ends.0)) ∷ [] else
+    if ends.1.address == n.settings.public_address then in_by (mapped n ends.1) ∷ [] else []
+translated_by n None = []
+
+abbrev pub nat_decides : Deciding PlainNat
+nat_decides n shown = translated_by n (ends_of (seen_by shown.values shown.fixed.proto))
 
 -- how translations behave
 abbrev pub nat_behaviour : Behaviour PlainNat

@@ -5,6 +5,7 @@ use first_sight::{EntryLines, FirstSeen, lines_of_keys, push_ip_address, same_ad
 use frame_seen::{seen_ip_address, seen_port};
 use item_list::Items;
 use packet_fields::Field;
+use packet_function::DecidingLine;
 use packet_version::{View, unwritten_stays, written_is_one_value};
 use std::alloc::{AllocError, Global};
 use std::marker::Model;
@@ -43,9 +44,10 @@ impl Model for Balancer {
 impl Balancer {
     ghost use Rattle.std.specs.Prelude.{◌≡◌, ◌<◌, ◌++◌, [], length, slice_index_or, IsOk, IfOk, OnOk, OnErr};
     ghost use Rattle.std.specs.List.{flat_map};
-    ghost use Rattle.packet_version.specs.Views.{viewed, wrote_all};
+    ghost use Rattle.packet_version.specs.Views.{seen_values, viewed, wrote_all};
+    ghost use Rattle.packet_function.specs.Deciding.{decided};
     ghost use Rattle.nf_translate.specs.Clients.{place_of, with_client};
-    ghost use Rattle.nf_translate.specs.Balancers.{backend_at, balancer_behaviour, flow_lines};
+    ghost use Rattle.nf_translate.specs.Balancers.{backend_at, balancer_behaviour, balancer_decides, flow_lines};
     ghost use Rattle.nf_translate.specs.StateRows.{flow_rows};
 
     /// A balancer that has seen no flow.
@@ -80,6 +82,25 @@ impl Balancer {
         let backend = self.backend_for(flow)?;
         write_destination(view, backend);
         Ok(Verdict::Pass)
+    }
+
+    /// Appends the line that decides on one packet, which it sees through a view of a balancer's profile: that of its
+    /// flow's backend if the backend's address is written, and none otherwise. If memory runs out, it appends nothing.
+    pub fn decide(&self, view: &View, deciding: &mut Vec<DecidingLine>) -> Result<(), AllocError>
+        requires profile { view.now.profile ≡ balancer_behaviour.profile self.now }
+        ensures decided { OnOk result (deciding.new.items ≡
+            deciding.old.items ++ decided balancer_behaviour balancer_decides view.now.version.fixed self.now (seen_values view.now)) }
+        ensures stays { OnErr result (deciding.new.items ≡ deciding.old.items) }
+    {
+        let Some(flow) = flow_in(&self.settings, view) else {
+            return Ok(());
+        };
+        let place = self.flows.place(&flow);
+        if is_written(view, backend_at(&self.settings, place)) {
+            let line = DecidingLine::Rule(place % self.settings.backends.as_slice().len());
+            deciding.push(line)?;
+        }
+        Ok(())
     }
 
     // The backend of a flow, which is noted if it is new.
@@ -161,12 +182,13 @@ impl EntryLines<Client, ()> for Balancer {
     }
 }
 
-ghost use Rattle.std.specs.Prelude.{◌≡◌, ◌<◌, ◌==◌, false, length};
+ghost use Rattle.std.specs.Prelude.{◌≡◌, ◌<◌, ◌==◌, false, length, is_some};
 ghost use Rattle.std.specs.Option.{option_copied, option_map_or};
 ghost use Rattle.action_profile.specs.Profiles.{profile_of};
 ghost use Rattle.action_profile.specs.declared.kind.Kind.{Kind};
 ghost use Rattle.packet_fields.specs.declared.field.Field.{Field};
 ghost use Rattle.packet_version.specs.Views.{seen_values, wrote_all, alone};
+ghost use Rattle.nf_translate.specs.Addresses.{ip_address_bytes};
 ghost use Rattle.nf_translate.specs.Balancers.{backend_at, flow_of, in_place_of, to_address};
 
 /// The backend of the flow at a place.
@@ -215,6 +237,18 @@ fn write_bytes(view: &mut View, bytes: &[u8])
         written_is_one_value();
     } else {
         unwritten_stays(view);
+    }
+}
+
+/// Is this address written as the destination address of a packet?
+fn is_written(view: &View, address: IpAddr) -> bool
+    requires profile { view.now.profile ≡ profile_of Kind.Balancer }
+    ensures { result ≡ is_some (in_place_of (seen_values view.now Field.DstIp) (ip_address_bytes address)) }
+{
+    let destination = view.get(Field::DstIp);
+    match address {
+        IpAddr::V4(address) => has_length(destination, address.octets().len()),
+        IpAddr::V6(address) => has_length(destination, address.octets().len()),
     }
 }
 

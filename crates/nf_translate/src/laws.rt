@@ -5,16 +5,19 @@ ghost use Rattle.policy_text.specs.declared.policy.FunctionDecl.{FunctionDecl};
 ghost use Rattle.chain_walk.specs.Shown.{Values};
 ghost use Rattle.chain_walk.specs.Step.{stepped};
 ghost use Rattle.chain_walk.specs.declared.fixed.Fixed.{Fixed};
+ghost use Rattle.packet_function.specs.Deciding.{decided};
 ghost use Rattle.function_lines.specs.KindLines.{refused_line};
 ghost use Rattle.nf_translate.specs.declared.balancer.BalancerSettings.{BalancerSettings};
 ghost use Rattle.nf_translate.specs.declared.client.Client.{Client};
 ghost use Rattle.nf_translate.specs.declared.endpoint.Endpoint.{Endpoint};
 ghost use Rattle.nf_translate.specs.Addresses.{ip_address_bytes};
 ghost use Rattle.nf_translate.specs.BalancerLines.{balancer_lines};
-ghost use Rattle.nf_translate.specs.Balancers.{PlainBalancer, backend_at, balanced, balancer_behaviour, balancer_of, flow_of, to_address};
+ghost use Rattle.nf_translate.specs.Balancers.{PlainBalancer, backend_at, balanced, balancer_of, flow_of, to_address};
+ghost use Rattle.nf_translate.specs.Balancers.{balancer_behaviour, balancer_decides};
 ghost use Rattle.nf_translate.specs.Clients.{is_known as is_known_client};
+ghost use Rattle.nf_translate.specs.Deciding.{DoesAs, WritesAs};
 ghost use Rattle.nf_translate.specs.Endpoints.{is_known, place_of};
-ghost use Rattle.nf_translate.specs.Nats.{PlainNat, coming, leaving, mapped, nat_behaviour, nat_of, port_at};
+ghost use Rattle.nf_translate.specs.Nats.{PlainNat, coming, leaving, mapped, nat_behaviour, nat_decides, nat_of, port_at};
 ghost use Rattle.nf_translate.specs.Standing.{KeepsBackend, HasOneVersion, HasPorts, backend_of};
 
 /// Once a packet of a flow came, the balancer knows the flow, and the flow keeps its backend, whatever packets come.
@@ -63,4 +66,20 @@ pub fn ports_run_out_once_all_are_taken()
     ensures one_more { (n : PlainNat) (source : Endpoint) (port : ℕ) → is_known n.mappings source ≡ false → length (leaving n source (Some port)).after.mappings ≡ length n.mappings + 1 }
     ensures no_more { (n : PlainNat) (source : Endpoint) (port : Option ℕ) → is_known n.mappings source ≡ true → (leaving n source port).after ≡ n }
     ensures none_back { (n : PlainNat) (inside : Option Endpoint) → (coming n inside).after ≡ n }
+{}
+
+/// At most one line of a translation decides on a packet. If it is `set inside`, the source of the packet becomes the
+/// public address with one of the ports; if it is `set public`, its destination becomes an endpoint inside. If it is
+/// `set ports` or the declaration, the packet is dropped. If no line decides, the packet passes as it is.
+pub fn a_translation_does_what_the_deciding_line_says()
+    ensures does { (fixed : Fixed) (n : PlainNat) (v : Values) →
+        DoesAs n (decided nat_behaviour nat_decides fixed n v) (stepped nat_behaviour fixed n v) }
+{}
+
+/// At most one line of a balancer that has backends decides on a packet: that of the backend whose address is written as
+/// the packet's destination. If no line decides, nothing is written.
+pub fn a_balancer_sends_to_the_backend_whose_line_decides()
+    ensures writes { (fixed : Fixed) (b : PlainBalancer) (v : Values) → 0 < length b.settings.backends →
+        WritesAs b.settings (decided balancer_behaviour balancer_decides fixed b v)
+        (stepped balancer_behaviour fixed b v).written }
 {}

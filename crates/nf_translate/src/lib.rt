@@ -20,6 +20,10 @@
 //! Stated without the steps: [`flows_keep_their_backends`], [`backends_are_of_one_version`], [`packets_come_back`] and
 //! [`ports_run_out_once_all_are_taken`].
 //!
+//! Which line of its declaration decides on a packet is told by [`Balancer::decide`] and [`Nat::decide`]
+//! (`balancer_decides` and `nat_decides` of the same specs). [`a_balancer_sends_to_the_backend_whose_line_decides`] and
+//! [`a_translation_does_what_the_deciding_line_says`] say that these lines do what the step does.
+//!
 //! A client and an endpoint are found by their key (`first_sight::FirstSeen`), and a mapping by its public port,
 //! without a search. Flows and mappings are never forgotten, so only memory limits the flows of a balancer.
 #![tactic(auto)]
@@ -38,7 +42,8 @@ pub use balancer::{Balancer, BalancerSettings};
 pub use client::Client;
 pub use endpoint::Endpoint;
 pub use laws::{
-    backends_are_of_one_version, flows_keep_their_backends, packets_come_back,
-    ports_run_out_once_all_are_taken,
+    a_balancer_sends_to_the_backend_whose_line_decides,
+    a_translation_does_what_the_deciding_line_says, backends_are_of_one_version,
+    flows_keep_their_backends, packets_come_back, ports_run_out_once_all_are_taken,
 };
 pub use nat::{Nat, NatSettings};

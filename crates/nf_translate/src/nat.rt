@@ -4,6 +4,7 @@ use chain_walk::Verdict;
 use first_sight::{EntryLines, FirstSeen, lines_of_keys, push_address};
 use frame_seen::{seen_address, seen_port};
 use packet_fields::Field;
+use packet_function::{DecidingLine, SettingKey};
 use packet_version::{View, later_write_stands_over, unwritten_stays, written_is_one_value};
 use policy_text::is_within;
 use std::alloc::{AllocError, Global};
@@ -43,10 +44,11 @@ impl Model for Nat {
 impl Nat {
     ghost use Rattle.std.specs.Prelude.{◌≡◌, ◌<◌, ◌++◌, [], length, slice_index_or, IsOk, IfOk, OnOk, OnErr};
     ghost use Rattle.std.specs.List.{flat_map};
-    ghost use Rattle.packet_version.specs.Views.{viewed, wrote_all};
+    ghost use Rattle.packet_version.specs.Views.{seen_values, viewed, wrote_all};
+    ghost use Rattle.packet_function.specs.Deciding.{decided};
     ghost use Rattle.nf_translate.specs.Endpoints.{place_of, with_endpoint};
     ghost use Rattle.nf_translate.specs.NatViews.{HasSource, HasDestination};
-    ghost use Rattle.nf_translate.specs.Nats.{leaving, coming, mapped, mapping_lines, nat_behaviour, port_at};
+    ghost use Rattle.nf_translate.specs.Nats.{leaving, coming, mapped, mapping_lines, nat_behaviour, nat_decides, out_by, in_by, port_at};
     ghost use Rattle.nf_translate.specs.StateRows.{mapping_rows};
 
     /// A translation without a mapping.
@@ -127,6 +129,47 @@ impl Nat {
                 unwritten_stays(view);
                 Verdict::Drop
             }
+        }
+    }
+
+    /// Appends the line that decides on one packet, which it sees through a view of a translation's profile: `set inside`
+    /// if the packet leaves, `set ports` if no port is left for it, `set public` if it comes in, the `fn` line if nobody
+    /// has its port, and none if it passes unchanged. If memory runs out, it appends nothing.
+    pub fn decide(&self, view: &View, deciding: &mut Vec<DecidingLine>) -> Result<(), AllocError>
+        requires profile { view.now.profile ≡ nat_behaviour.profile self.now }
+        ensures decided { OnOk result (deciding.new.items ≡
+            deciding.old.items ++ decided nat_behaviour nat_decides view.now.version.fixed self.now (seen_values view.now)) }
+        ensures stays { OnErr result (deciding.new.items ≡ deciding.old.items) }
+    {
+        let Some((source, destination)) = ends_in(view) else {
+            return Ok(());
+        };
+        let settings = self.settings;
+        if is_within(settings.inside, settings.inside_bits, source.address) {
+            deciding.push(self.line_out(source))?;
+        } else if destination.address == settings.public_address {
+            deciding.push(self.line_in(destination))?;
+        }
+        Ok(())
+    }
+
+    // The line that decides on a packet from inside.
+    fn line_out(&self, source: Endpoint) -> DecidingLine
+        ensures { result ≡ out_by (port_at self.now.settings (place_of self.now.mappings source)) }
+    {
+        match port_at(self.settings, self.mappings.place(&source)) {
+            Some(_) => DecidingLine::Set(SettingKey::Inside),
+            None => DecidingLine::Set(SettingKey::Ports),
+        }
+    }
+
+    // The line that decides on a packet to the public address.
+    fn line_in(&self, destination: Endpoint) -> DecidingLine
+        ensures { result ≡ in_by (mapped self.now destination) }
+    {
+        match self.mapped(destination) {
+            Some(_) => DecidingLine::Set(SettingKey::Public),
+            None => DecidingLine::Declaration,
         }
     }
 
