@@ -7,10 +7,13 @@ use Rattle.chain_walk.specs.Shown.{Values}
 use Rattle.chain_walk.specs.Step.{Step, stepped}
 use Rattle.chain_walk.specs.declared.fixed.Fixed.{Fixed}
 use Rattle.chain_walk.specs.declared.verdict.Verdict.TheVariants.{Pass, Drop}
+use Rattle.packet_function.specs.Deciding.{decided}
+use Rattle.packet_function.specs.declared.deciding.DecidingLine.{DecidingLine}
+use Rattle.packet_function.specs.declared.deciding.DecidingLine.TheVariants.{Declaration}
 use Rattle.function_lines.specs.KindLines.{refused_line}
 use Rattle.nf_mark.specs.declared.hop.Hop.{Hop}
 use Rattle.nf_mark.specs.NoLines.{no_lines}
-use Rattle.nf_mark.specs.Hops.{hop_by, hop_behaviour}
+use Rattle.nf_mark.specs.Hops.{hop_by, hop_behaviour, hop_decides}
 
 -- a hop has no line
 refuses_any : refused_line no_lines (record { name = codes "h"; line = 3; kind = kinds.Hop; settings = (record { line = 4; words = codes "set" ∷ codes "ttl" ∷ codes "1" ∷ [] }) ∷ [] }) ≡ Some 4
@@ -47,3 +50,17 @@ writes_none = refl
 -- without a time to live it passes
 passes_others : (step None).verdict ≡ Pass
 passes_others = refl
+
+-- the lines that decide
+abbrev deciding : Option (List ℕ) → List DecidingLine
+deciding ttl = decided hop_behaviour hop_decides shown (hop_by []) (living ttl)
+
+-- the declaration decides on a packet whose time is over, and on no other
+decides_one : deciding (Some (1 ∷ [])) ≡ Declaration ∷ []
+decides_one = refl
+
+decides_no_two : deciding (Some (2 ∷ [])) ≡ []
+decides_no_two = refl
+
+decides_no_others : deciding None ≡ []
+decides_no_others = refl

@@ -1,3 +1,4 @@
+pub mod Decided
 pub mod FieldsThere
 pub mod HopRows
 pub mod MarkerRows
@@ -6,3 +7,6 @@ pub mod NexthopRows
 pub mod Redacting
 pub mod RedactorRows
 pub mod TagRows
+pub mod UsedAlone
+pub mod UsedPatterns
+pub mod UsedRules

@@ -7,9 +7,13 @@ use Rattle.policy_text.specs.declared.policy.FunctionDecl.{FunctionDecl}
 use Rattle.chain_walk.specs.Shown.{Values}
 use Rattle.chain_walk.specs.Step.{stepped}
 use Rattle.chain_walk.specs.declared.fixed.Fixed.{Fixed}
+use Rattle.packet_function.specs.Deciding.{decided}
+use Rattle.packet_function.specs.declared.deciding.DecidingLine.{DecidingLine}
+use Rattle.packet_function.specs.declared.deciding.DecidingLine.TheVariants.{Rule}
 use Rattle.function_lines.specs.KindLines.{refused_line}
 use Rattle.nf_mark.specs.MarkerLines.{line_of, marker_lines}
-use Rattle.nf_mark.specs.Markers.{marker_of, marker_behaviour, tos_for}
+use Rattle.nf_mark.specs.Markers.{marker_of, marker_behaviour, marker_decides, tos_for}
+use Rattle.nf_mark.specs.DecidingRules.{place_met}
 
 -- packets from 10.0.0.9 get 16, and else those to 198.51.100.0/30 get 184 (expedited forwarding, RFC 3246)
 declared : FunctionDecl
@@ -75,3 +79,24 @@ no_rule = refl
 no_field : written None (10 ∷ 0 ∷ 0 ∷ 9 ∷ []) (198 ∷ 51 ∷ 100 ∷ 3 ∷ []) ≡ None
 unfolding line_of declared udp packet written tos_for
 no_field = refl
+
+-- the rules that decide
+deciding : Option (List ℕ) → List ℕ → List ℕ → List DecidingLine
+deciding tos src dst = decided marker_behaviour marker_decides udp (marker_of declared) (packet tos src dst)
+
+first_decides : deciding (Some (0 ∷ [])) (10 ∷ 0 ∷ 0 ∷ 9 ∷ []) (198 ∷ 51 ∷ 100 ∷ 3 ∷ []) ≡ Rule 0 ∷ []
+unfolding line_of declared udp packet deciding place_met
+first_decides = refl
+
+second_decides : deciding (Some (0 ∷ [])) (10 ∷ 0 ∷ 0 ∷ 8 ∷ []) (198 ∷ 51 ∷ 100 ∷ 3 ∷ []) ≡ Rule 1 ∷ []
+unfolding line_of declared udp packet deciding place_met
+second_decides = refl
+
+none_decides : deciding (Some (0 ∷ [])) (10 ∷ 0 ∷ 0 ∷ 8 ∷ []) (198 ∷ 51 ∷ 100 ∷ 4 ∷ []) ≡ []
+unfolding line_of declared udp packet deciding place_met
+none_decides = refl
+
+-- no rule decides on a packet that has no type of service
+none_without_field : deciding None (10 ∷ 0 ∷ 0 ∷ 9 ∷ []) (198 ∷ 51 ∷ 100 ∷ 3 ∷ []) ≡ []
+unfolding line_of declared udp packet deciding place_met
+none_without_field = refl

@@ -8,9 +8,13 @@ use Rattle.policy_text.specs.declared.policy.FunctionDecl.{FunctionDecl}
 use Rattle.chain_walk.specs.Shown.{Values}
 use Rattle.chain_walk.specs.Step.{stepped}
 use Rattle.chain_walk.specs.declared.fixed.Fixed.{Fixed}
+use Rattle.packet_function.specs.Deciding.{decided}
+use Rattle.packet_function.specs.declared.deciding.DecidingLine.{DecidingLine}
+use Rattle.packet_function.specs.declared.deciding.DecidingLine.TheVariants.{Rule}
 use Rattle.function_lines.specs.KindLines.{refused_line}
 use Rattle.nf_mark.specs.NexthopLines.{line_of, nexthop_lines}
-use Rattle.nf_mark.specs.Nexthops.{nexthop_of, nexthop_behaviour}
+use Rattle.nf_mark.specs.Nexthops.{nexthop_of, nexthop_behaviour, nexthop_decides}
+use Rattle.nf_mark.specs.DecidingRules.{place_met}
 
 -- 198.51.100.0/24 goes to 02:00:00:00:00:0a, and everything else to 02:00:00:00:00:0c
 declared : FunctionDecl
@@ -66,3 +70,19 @@ second_to = refl
 no_destination : written None LinkDst ≡ None
 unfolding line_of declared udp packet written
 no_destination = refl
+
+-- the rules that decide
+deciding : Option (List ℕ) → List DecidingLine
+deciding dst = decided nexthop_behaviour nexthop_decides udp (nexthop_of declared) (packet dst)
+
+first_decides : deciding (Some (198 ∷ 51 ∷ 100 ∷ 7 ∷ [])) ≡ Rule 0 ∷ []
+unfolding line_of declared udp packet deciding place_met
+first_decides = refl
+
+second_decides : deciding (Some (198 ∷ 51 ∷ 101 ∷ 7 ∷ [])) ≡ Rule 1 ∷ []
+unfolding line_of declared udp packet deciding place_met
+second_decides = refl
+
+none_decides : deciding None ≡ []
+unfolding line_of declared udp packet deciding place_met
+none_decides = refl

@@ -8,9 +8,12 @@ use Rattle.policy_text.specs.declared.policy.Setting.{Setting}
 use Rattle.chain_walk.specs.Shown.{Values}
 use Rattle.chain_walk.specs.Step.{stepped}
 use Rattle.chain_walk.specs.declared.fixed.Fixed.{Fixed}
+use Rattle.packet_function.specs.Deciding.{decided}
+use Rattle.packet_function.specs.declared.deciding.DecidingLine.{DecidingLine}
+use Rattle.packet_function.specs.declared.deciding.DecidingLine.TheVariants.{Rule}
 use Rattle.function_lines.specs.KindLines.{refused_line}
 use Rattle.patterns.specs.Lines.{line_of, pattern_lines}
-use Rattle.nf_mark.specs.Redactors.{redactor_of, redactor_behaviour}
+use Rattle.nf_mark.specs.Redactors.{redactor_of, redactor_behaviour, redactor_decides}
 
 declared : List Setting → FunctionDecl
 declared settings = record { name = codes "red"; line = 3; kind = kinds.Redactor; settings = settings }
@@ -57,3 +60,41 @@ unwritten = refl
 without_payload : written None ≡ None
 unfolding line_of declared two packet written udp
 without_payload = refl
+
+-- the rules that decide, of the redactor with these lines
+deciding : List Setting → Option (List ℕ) → List DecidingLine
+deciding settings payload = decided redactor_behaviour redactor_decides udp (redactor_of (declared settings)) (packet payload)
+
+-- the second pattern, xc, occurs only because of what the first overwrote
+both_decide : deciding two (Some (codes "abc")) ≡ Rule 0 ∷ Rule 1 ∷ []
+unfolding line_of declared two packet deciding udp
+both_decide = refl
+
+-- it occurs by itself
+second_decides : deciding two (Some (codes "a xc")) ≡ Rule 1 ∷ []
+unfolding line_of declared two packet deciding udp
+second_decides = refl
+
+overlapping : List Setting
+overlapping =
+    (record { line = 4; words = codes "rule" ∷ codes "text" ∷ codes "ab" ∷ [] }) ∷
+    (record { line = 5; words = codes "rule" ∷ codes "text" ∷ codes "bc" ∷ [] }) ∷
+    (record { line = 6; words = codes "rule" ∷ codes "text" ∷ codes "d" ∷ [] }) ∷ []
+
+-- the second pattern, bc, no longer occurs after the first overwrote its first byte
+second_is_gone : deciding overlapping (Some (codes "abcd")) ≡ Rule 0 ∷ Rule 2 ∷ []
+unfolding line_of declared overlapping packet deciding udp
+second_is_gone = refl
+
+-- but elsewhere it is left
+second_is_left : deciding overlapping (Some (codes "abcbc")) ≡ Rule 0 ∷ Rule 1 ∷ []
+unfolding line_of declared overlapping packet deciding udp
+second_is_left = refl
+
+none_decides : deciding two (Some (codes "a bc")) ≡ []
+unfolding line_of declared two packet deciding udp
+none_decides = refl
+
+none_without_payload : deciding two None ≡ []
+unfolding line_of declared two packet deciding udp
+none_without_payload = refl

@@ -7,10 +7,14 @@ use Rattle.policy_text.specs.declared.policy.FunctionDecl.{FunctionDecl}
 use Rattle.chain_walk.specs.Shown.{Values}
 use Rattle.chain_walk.specs.Step.{stepped}
 use Rattle.chain_walk.specs.declared.fixed.Fixed.{Fixed}
+use Rattle.packet_function.specs.Deciding.{decided}
+use Rattle.packet_function.specs.declared.deciding.DecidingLine.{DecidingLine}
+use Rattle.packet_function.specs.declared.deciding.DecidingLine.TheVariants.{Rule}
 use Rattle.function_lines.specs.KindLines.{refused_line}
 use Rattle.nf_mark.specs.NoLines.{no_lines}
 use Rattle.nf_mark.specs.TaggerLines.{line_of, tagger_lines}
-use Rattle.nf_mark.specs.Taggers.{tagger_of, tagger_behaviour, control_for}
+use Rattle.nf_mark.specs.Taggers.{tagger_of, tagger_behaviour, tagger_decides, control_for}
+use Rattle.nf_mark.specs.DecidingRules.{place_met}
 use Rattle.nf_mark.specs.Untaggers.{untagger_by, untagger_behaviour}
 
 -- packets from 10.0.0.9 get the VLAN id 100 and the priority 5, and all others the VLAN id 7 and the priority 0
@@ -94,3 +98,19 @@ no_tag = refl
 no_place : left_of None ≡ None
 unfolding udp packet left_of
 no_place = refl
+
+-- the rules of the tagger that decide
+deciding : Option (List ℕ) → List ℕ → List DecidingLine
+deciding tags src = decided tagger_behaviour tagger_decides udp (tagger_of declared) (packet tags src)
+
+first_decides : deciding (Some two_tags) (10 ∷ 0 ∷ 0 ∷ 9 ∷ []) ≡ Rule 0 ∷ []
+unfolding line_of declared udp packet deciding place_met two_tags
+first_decides = refl
+
+second_decides : deciding (Some []) (10 ∷ 0 ∷ 0 ∷ 1 ∷ []) ≡ Rule 1 ∷ []
+unfolding line_of declared udp packet deciding place_met
+second_decides = refl
+
+none_decides : deciding None (10 ∷ 0 ∷ 0 ∷ 9 ∷ []) ≡ []
+unfolding line_of declared udp packet deciding place_met
+none_decides = refl

@@ -1,10 +1,14 @@
 -- For proofs: a hop does what its profile says, and no more.
 use Rattle.std.specs.Prelude.{◌≡◌, ◌-◌, ℕ, List, [], ◌∷◌, length, Bool, false, true, nat_le, slice_index, if◌then◌else◌, Option, Some, None, is_some, IfSome, IsSomeAnd, refl}
 use Rattle.std.specs.Option.{option_map}
-use Rattle.std.proofs.Common.{sym, true≢false}
+use Rattle.std.proofs.Common.{ap, sym, true≢false}
+use Rattle.std.proofs.lemmas.Bool.{cond-true}
 use Rattle.packet_fields.specs.declared.field.Field.TheVariants.{Ttl}
 use Rattle.chain_walk.specs.Laws.{KeepsProfile}
-use Rattle.nf_mark.specs.Hops.{ttl_of, new_ttl, hop_behaviour}
+use Rattle.chain_walk.specs.Step.{stepped, is_drop}
+use Rattle.packet_function.specs.Deciding.{DecidesDrops}
+use Rattle.packet_function.specs.declared.deciding.DecidingLine.TheVariants.{Declaration}
+use Rattle.nf_mark.specs.Hops.{ttl_of, new_ttl, hop_behaviour, hop_decides}
 use Rattle.nf_mark.specs.Keeping.{writes_only, lengths_only}
 
 -- the byte of the remaining time, in the place of an old one
@@ -33,4 +37,10 @@ hop_keeps = record {
   tags = λ fixed h v whole. tt;
   adds = λ fixed f v h. absurd cc;
   removes = λ fixed f v h. absurd cc;
+}
+
+-- the declaration decides on each drop
+pub hop_decides_drops : DecidesDrops hop_behaviour hop_decides
+hop_decides_drops = record {
+  one = λ fixed h v drops. ap length (cond-true (is_drop (stepped hop_behaviour fixed h v).verdict) (Declaration ∷ []) [] drops);
 }

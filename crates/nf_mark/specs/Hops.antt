@@ -6,9 +6,11 @@ use Rattle.policy_text.specs.declared.policy.FunctionDecl.{FunctionDecl}
 use Rattle.action_profile.specs.Profiles.{profile_of}
 use Rattle.action_profile.specs.declared.kind.Kind.TheVariants as kinds
 use Rattle.chain_walk.specs.Shown.{Shown}
-use Rattle.chain_walk.specs.Step.{Step, Behaviour}
+use Rattle.chain_walk.specs.Step.{Step, Behaviour, is_drop}
 use Rattle.chain_walk.specs.declared.verdict.Verdict.{Verdict}
 use Rattle.chain_walk.specs.declared.verdict.Verdict.TheVariants.{Pass, Drop}
+use Rattle.packet_function.specs.Deciding.{Deciding}
+use Rattle.packet_function.specs.declared.deciding.DecidingLine.TheVariants.{Declaration}
 use Rattle.function_lines.specs.KindLines.{said_by}
 use Rattle.nf_mark.specs.declared.hop.Hop.{Hop}
 use Rattle.nf_mark.specs.declared.no_lines.NoLine.{NoLine}
@@ -48,3 +50,7 @@ hop_step h shown = record {
 -- how hops behave
 abbrev pub hop_behaviour : Behaviour Hop
 hop_behaviour = record { profile = λ h. profile_of kinds.Hop; step = hop_step }
+
+-- a hop has no line but its declaration, which decides on each packet that is dropped
+abbrev pub hop_decides : Deciding Hop
+hop_decides h shown = if is_drop (hop_step h shown).verdict then Declaration ∷ [] else []

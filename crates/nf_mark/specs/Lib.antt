@@ -1,4 +1,5 @@
 pub mod Clauses
+pub mod DecidingRules
 pub mod FoundPatterns
 pub mod HopLaws
 pub mod Hops
@@ -21,3 +22,4 @@ pub mod TaggerLines
 pub mod Taggers
 pub mod UntaggerLaws
 pub mod Untaggers
+pub mod UsedRules

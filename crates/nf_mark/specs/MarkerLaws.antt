@@ -4,7 +4,8 @@ use Rattle.std.specs.Option.{option_map}
 use Rattle.std.proofs.Common.{sym}
 use Rattle.packet_fields.specs.declared.field.Field.TheVariants.{Tos}
 use Rattle.chain_walk.specs.Laws.{KeepsProfile}
-use Rattle.nf_mark.specs.Markers.{marker_behaviour}
+use Rattle.packet_function.specs.Deciding.{DecidesDrops}
+use Rattle.nf_mark.specs.Markers.{marker_behaviour, marker_decides}
 use Rattle.nf_mark.specs.Keeping.{writes_only, lengths_only}
 
 -- the byte of a new type of service, in the place of an old one
@@ -31,3 +32,7 @@ marker_keeps = record {
   adds = λ fixed f v h. absurd cc;
   removes = λ fixed f v h. absurd cc;
 }
+
+-- it drops nothing
+pub marker_decides_drops : DecidesDrops marker_behaviour marker_decides
+marker_decides_drops = record { one = λ fixed m v drops. absurd cc }

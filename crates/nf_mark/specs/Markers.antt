@@ -10,10 +10,12 @@ use Rattle.action_profile.specs.declared.kind.Kind.TheVariants as kinds
 use Rattle.chain_walk.specs.Shown.{Shown}
 use Rattle.chain_walk.specs.Step.{Step, Behaviour}
 use Rattle.chain_walk.specs.declared.verdict.Verdict.TheVariants.{Pass}
+use Rattle.packet_function.specs.Deciding.{Deciding, rule_at}
 use Rattle.function_lines.specs.KindLines.{said_by}
 use Rattle.function_lines.specs.Rules.{first_met}
 use Rattle.nf_mark.specs.declared.marker.MarkRule.{MarkRule}
 use Rattle.nf_mark.specs.declared.marker.Marker.{Marker}
+use Rattle.nf_mark.specs.DecidingRules.{place_met}
 use Rattle.nf_mark.specs.MarkerLines.{marker_lines}
 use Rattle.nf_mark.specs.OneField.{only}
 
@@ -45,3 +47,11 @@ marker_step m shown = record { after = m; verdict = Pass; written = only Tos (op
 -- how markers behave
 abbrev pub marker_behaviour : Behaviour Marker
 marker_behaviour = record { profile = λ m. profile_of kinds.Marker; step = marker_step }
+
+-- the place of the first rule whose clauses are all met, for a packet that has a type of service
+abbrev pub deciding_place : Marker → Shown → Option ℕ
+deciding_place m shown = if shown.has Tos then place_met (λ rule. rule.fit) (all_seen shown) m.rules else None
+
+-- this rule decides
+abbrev pub marker_decides : Deciding Marker
+marker_decides m shown = rule_at (deciding_place m shown)

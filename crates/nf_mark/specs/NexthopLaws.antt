@@ -9,7 +9,8 @@ use Rattle.action_profile.specs.declared.kind.Kind.TheVariants as kinds
 use Rattle.chain_walk.specs.Shown.{Values}
 use Rattle.chain_walk.specs.Laws.{KeepsProfile}
 use Rattle.nf_mark.specs.declared.nexthop.NexthopRule.{NexthopRule}
-use Rattle.nf_mark.specs.Nexthops.{links_by, nexthop_behaviour}
+use Rattle.packet_function.specs.Deciding.{DecidesDrops}
+use Rattle.nf_mark.specs.Nexthops.{links_by, nexthop_behaviour, nexthop_decides}
 
 abbrev is_link : Field → Bool
 is_link LinkDst = true
@@ -108,3 +109,7 @@ nexthop_keeps = record {
   adds = λ fixed f v h. absurd cc;
   removes = λ fixed f v h. absurd cc;
 }
+
+-- it drops nothing
+pub nexthop_decides_drops : DecidesDrops nexthop_behaviour nexthop_decides
+nexthop_decides_drops = record { one = λ fixed n v drops. absurd cc }

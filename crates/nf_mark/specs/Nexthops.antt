@@ -1,5 +1,5 @@
 -- Believed: a nexthop: how it is declared, and what it does as a function of a chain.
-use Rattle.std.specs.Prelude.{List, ◌&&◌, if◌then◌else◌, Option, Some, None}
+use Rattle.std.specs.Prelude.{ℕ, List, ◌&&◌, if◌then◌else◌, Option, Some, None}
 use Rattle.packet_fields.specs.declared.field.Field.TheVariants.{LinkDst, LinkSrc}
 use Rattle.policy_text.specs.declared.policy.FunctionDecl.{FunctionDecl}
 use Rattle.frame_seen.specs.Seeing.{seen_by}
@@ -8,11 +8,13 @@ use Rattle.action_profile.specs.declared.kind.Kind.TheVariants as kinds
 use Rattle.chain_walk.specs.Shown.{Shown, Values}
 use Rattle.chain_walk.specs.Step.{Step, Behaviour, nothing}
 use Rattle.chain_walk.specs.declared.verdict.Verdict.TheVariants.{Pass}
+use Rattle.packet_function.specs.Deciding.{Deciding, rule_at}
 use Rattle.function_lines.specs.KindLines.{said_by}
 use Rattle.function_lines.specs.Rules.{first_met}
 use Rattle.nf_mark.specs.declared.link_address.LinkAddress.{LinkAddress}
 use Rattle.nf_mark.specs.declared.nexthop.Nexthop.{Nexthop}
 use Rattle.nf_mark.specs.declared.nexthop.NexthopRule.{NexthopRule}
+use Rattle.nf_mark.specs.DecidingRules.{place_met}
 use Rattle.nf_mark.specs.Links.{link_bytes}
 use Rattle.nf_mark.specs.NexthopLines.{nexthop_lines}
 
@@ -46,3 +48,11 @@ nexthop_step n shown = record { after = n; verdict = Pass; written = links_by (r
 -- how nexthops behave
 abbrev pub nexthop_behaviour : Behaviour Nexthop
 nexthop_behaviour = record { profile = λ n. profile_of kinds.Nexthop; step = nexthop_step }
+
+-- the place of the first rule whose prefix holds the destination, for a packet that has both link addresses
+abbrev pub deciding_place : Nexthop → Shown → Option ℕ
+deciding_place n shown = if shown.has LinkDst && shown.has LinkSrc then place_met (λ rule. rule.fit) (seen_by shown.values shown.fixed.proto) n.rules else None
+
+-- this rule decides
+abbrev pub nexthop_decides : Deciding Nexthop
+nexthop_decides n shown = rule_at (deciding_place n shown)

@@ -13,7 +13,8 @@ use Rattle.patterns.specs.Occurrences.{some_occurs}
 use Rattle.patterns.specs.Overwriting.{redacted}
 use Rattle.patterns.specs.Lengths.{same_length}
 use Rattle.nf_mark.specs.declared.redactor.Redactor.{Redactor}
-use Rattle.nf_mark.specs.Redactors.{redacted_payload, redactor_behaviour}
+use Rattle.packet_function.specs.Deciding.{DecidesDrops}
+use Rattle.nf_mark.specs.Redactors.{redacted_payload, redactor_behaviour, redactor_decides}
 
 module _ (patterns : List (List ℕ)) where
   -- if there is no payload, nothing is written
@@ -62,3 +63,7 @@ redactor_keeps = record {
   adds = λ fixed f v h. absurd cc;
   removes = λ fixed f v h. absurd cc;
 }
+
+-- it drops nothing
+pub redactor_decides_drops : DecidesDrops redactor_behaviour redactor_decides
+redactor_decides_drops = record { one = λ fixed r v drops. absurd cc }

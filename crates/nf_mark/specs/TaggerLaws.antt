@@ -4,7 +4,8 @@ use Rattle.std.proofs.Common.{true≢false, arith}
 use Rattle.packet_fields.specs.Frames.{is_tag_list}
 use Rattle.packet_fields.specs.declared.field.Field.TheVariants.{Tag}
 use Rattle.chain_walk.specs.Laws.{KeepsProfile}
-use Rattle.nf_mark.specs.Taggers.{tag_of, tagged, tagger_behaviour}
+use Rattle.packet_function.specs.Deciding.{DecidesDrops}
+use Rattle.nf_mark.specs.Taggers.{tag_of, tagged, tagger_behaviour, tagger_decides}
 use Rattle.nf_mark.specs.Keeping.{writes_only, lengths_only}
 
 there : (control : Option ℕ) (old : Option (List ℕ)) → is_some old ≡ false → tagged control old ≡ None
@@ -38,3 +39,7 @@ tagger_keeps = record {
   adds = λ fixed t v h. put_before _ (v Tag);
   removes = λ fixed f v h. absurd cc;
 }
+
+-- it drops nothing
+pub tagger_decides_drops : DecidesDrops tagger_behaviour tagger_decides
+tagger_decides_drops = record { one = λ fixed t v drops. absurd cc }

@@ -11,10 +11,12 @@ use Rattle.action_profile.specs.declared.kind.Kind.TheVariants as kinds
 use Rattle.chain_walk.specs.Shown.{Shown}
 use Rattle.chain_walk.specs.Step.{Step, Behaviour}
 use Rattle.chain_walk.specs.declared.verdict.Verdict.TheVariants.{Pass}
+use Rattle.packet_function.specs.Deciding.{Deciding, rule_at}
 use Rattle.function_lines.specs.KindLines.{said_by}
 use Rattle.function_lines.specs.Rules.{first_met}
 use Rattle.nf_mark.specs.declared.tagger.TagRule.{TagRule}
 use Rattle.nf_mark.specs.declared.tagger.Tagger.{Tagger}
+use Rattle.nf_mark.specs.DecidingRules.{place_met}
 use Rattle.nf_mark.specs.OneField.{only}
 use Rattle.nf_mark.specs.TaggerLines.{tagger_lines}
 
@@ -49,3 +51,11 @@ tagger_step t shown = record { after = t; verdict = Pass; written = only Tag (ta
 -- how taggers behave
 abbrev pub tagger_behaviour : Behaviour Tagger
 tagger_behaviour = record { profile = λ t. profile_of kinds.Tagger; step = tagger_step }
+
+-- the place of the first rule whose clauses are all met, for a packet that has a place for tags
+abbrev pub deciding_place : Tagger → Shown → Option ℕ
+deciding_place t shown = if shown.has Tag then place_met (λ rule. rule.fit) (seen_by shown.values shown.fixed.proto) t.rules else None
+
+-- this rule decides
+abbrev pub tagger_decides : Deciding Tagger
+tagger_decides t shown = rule_at (deciding_place t shown)

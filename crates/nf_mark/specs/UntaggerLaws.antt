@@ -5,7 +5,8 @@ use Rattle.std.proofs.lemmas.Bool.{and_parts, false≢true}
 use Rattle.packet_fields.specs.Frames.{is_tpid, is_tag_list}
 use Rattle.packet_fields.specs.declared.field.Field.TheVariants.{Tag}
 use Rattle.chain_walk.specs.Laws.{KeepsProfile}
-use Rattle.nf_mark.specs.Untaggers.{untagged, untagger_behaviour}
+use Rattle.packet_function.specs.Deciding.{DecidesDrops}
+use Rattle.nf_mark.specs.Untaggers.{untagged, untagger_behaviour, untagger_decides}
 use Rattle.nf_mark.specs.Keeping.{writes_only, lengths_only}
 
 there : (old : Option (List ℕ)) → is_some old ≡ false → untagged old ≡ None
@@ -46,3 +47,7 @@ untagger_keeps = record {
   adds = λ fixed f v h. absurd cc;
   removes = λ fixed u v h. first_gone (v Tag);
 }
+
+-- it drops nothing
+pub untagger_decides_drops : DecidesDrops untagger_behaviour untagger_decides
+untagger_decides_drops = record { one = λ fixed u v drops. absurd cc }

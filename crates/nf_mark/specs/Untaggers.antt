@@ -1,5 +1,5 @@
 -- Believed: an untagger: how it is declared, and what it does as a function of a chain.
-use Rattle.std.specs.Prelude.{ℕ, List, length, drop, ◌==◌, if◌then◌else◌, Option, Some, None}
+use Rattle.std.specs.Prelude.{ℕ, List, [], length, drop, ◌==◌, if◌then◌else◌, Option, Some, None}
 use Rattle.packet_fields.specs.declared.field.Field.TheVariants.{Tag}
 use Rattle.policy_text.specs.declared.policy.FunctionDecl.{FunctionDecl}
 use Rattle.action_profile.specs.Profiles.{profile_of}
@@ -7,6 +7,7 @@ use Rattle.action_profile.specs.declared.kind.Kind.TheVariants as kinds
 use Rattle.chain_walk.specs.Shown.{Shown}
 use Rattle.chain_walk.specs.Step.{Step, Behaviour}
 use Rattle.chain_walk.specs.declared.verdict.Verdict.TheVariants.{Pass}
+use Rattle.packet_function.specs.Deciding.{Deciding}
 use Rattle.function_lines.specs.KindLines.{said_by}
 use Rattle.nf_mark.specs.declared.no_lines.NoLine.{NoLine}
 use Rattle.nf_mark.specs.declared.untagger.Untagger.{Untagger}
@@ -33,3 +34,7 @@ untagger_step u shown = record { after = u; verdict = Pass; written = only Tag (
 -- how untaggers behave
 abbrev pub untagger_behaviour : Behaviour Untagger
 untagger_behaviour = record { profile = λ u. profile_of kinds.Untagger; step = untagger_step }
+
+-- no line of an untagger decides anything
+abbrev pub untagger_decides : Deciding Untagger
+untagger_decides u shown = []

@@ -5,6 +5,7 @@ use crate::present::has_field;
 use chain_walk::Verdict;
 use function_lines::read_lines;
 use packet_fields::Field;
+use packet_function::DecidingLine;
 use packet_version::{View, unwritten_stays, written_is_one_value};
 use policy_text::{BuildFault, FunctionDecl};
 use std::alloc::{AllocError, Global};
@@ -15,12 +16,13 @@ use std::alloc::{AllocError, Global};
 pub struct Hop;
 
 impl Hop {
-    ghost use Rattle.std.specs.Prelude.{◌≡◌, Ok, true, is_ok};
+    ghost use Rattle.std.specs.Prelude.{◌≡◌, ◌++◌, Ok, true, is_ok, OnOk, OnErr};
     ghost use Rattle.action_profile.specs.declared.kind.Kind.{Kind};
     ghost use Rattle.function_lines.specs.Builds.{Builds};
-    ghost use Rattle.packet_version.specs.Views.{viewed, wrote_all};
+    ghost use Rattle.packet_version.specs.Views.{seen_values, viewed, wrote_all};
+    ghost use Rattle.packet_function.specs.Deciding.{decided};
     ghost use Rattle.nf_mark.specs.NoLines.{no_lines};
-    ghost use Rattle.nf_mark.specs.Hops.{hop_by, hop_behaviour};
+    ghost use Rattle.nf_mark.specs.Hops.{hop_by, hop_behaviour, hop_decides};
 
     /// Makes the hop that is declared, or returns the least line of the declaration. Each line is refused.
     pub fn build(alloc: Global, decl: &FunctionDecl) -> Result<Hop, BuildFault>
@@ -50,6 +52,23 @@ impl Hop {
         view.set(Field::Ttl, &[ttl - 1]);
         written_is_one_value();
         Ok(Verdict::Pass)
+    }
+
+    /// Appends the line that decides what it does to one packet, which it sees through a view of a hop's profile: its
+    /// declaration if it drops the packet, and none otherwise. If memory runs out, it appends nothing.
+    pub fn decide(&self, view: &View, deciding: &mut Vec<DecidingLine>) -> Result<(), AllocError>
+        requires profile { view.now.profile ≡ hop_behaviour.profile self.now }
+        ensures decided { OnOk result (deciding.new.items ≡
+            deciding.old.items ++ decided hop_behaviour hop_decides view.now.version.fixed self.now (seen_values view.now)) }
+        ensures stays { OnErr result (deciding.new.items ≡ deciding.old.items) }
+    {
+        let Some(ttl) = ttl_in(view) else {
+            return Ok(());
+        };
+        if ttl <= 1 {
+            deciding.push(DecidingLine::Declaration)?;
+        }
+        Ok(())
     }
 
     /// Appends the lines of its state, which a hop doesn't have.

@@ -27,13 +27,18 @@
 //! several places: `try_clone` returns one more of it, over the same rules or patterns in memory, and a hop and an
 //! untagger are `Copy`.
 //!
+//! `decide` names the lines that decide what a function does to a packet: `marker_decides` and the like, each beside its
+//! behaviour. No line of an untagger decides anything.
+//!
 //! Stated without the steps, [`new_tag_is_outermost`] says that clauses see the VLAN id of a new tag, and that an
-//! untagger removes it again.
+//! untagger removes it again. [`deciding_rule_marks`], [`deciding_rule_leads_on`], [`deciding_rule_tags`],
+//! [`declaration_decides_drops`] and [`deciding_patterns_redact`] say that the lines that decide do what the step does.
 //!
 //! Checksums are not adjusted here: that is done once, when a packet leaves (`packet_fields::seal`).
 #![tactic(auto)]
 
 mod asking;
+mod deciding;
 mod hop;
 mod laws;
 mod link_address;
@@ -46,7 +51,10 @@ mod tagger;
 mod untagger;
 
 pub use hop::Hop;
-pub use laws::new_tag_is_outermost;
+pub use laws::{
+    deciding_patterns_redact, deciding_rule_leads_on, deciding_rule_marks, deciding_rule_tags,
+    declaration_decides_drops, new_tag_is_outermost,
+};
 pub use link_address::LinkAddress;
 pub use marker::{MarkRule, Marker};
 pub use nexthop::{Nexthop, NexthopRule};

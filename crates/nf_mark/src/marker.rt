@@ -3,11 +3,13 @@
 mod build;
 mod lines;
 
+use crate::deciding::{first_place, push_rule};
 use crate::present::has_field;
 use chain_walk::Verdict;
 use frame_seen::{seen_address, seen_address6, seen_port};
 use function_lines::{FitRules, Fitting};
 use packet_fields::Field;
+use packet_function::DecidingLine;
 use packet_version::{View, unwritten_stays, written_is_one_value};
 use policy_text::{Match, Seen, TagSeen};
 use std::alloc::AllocError;
@@ -35,13 +37,14 @@ pub struct Marker {
 }
 
 impl Marker {
-    ghost use Rattle.std.specs.Prelude.{◌≡◌, Ok, length, true, is_ok, IsSome, IfOk};
+    ghost use Rattle.std.specs.Prelude.{◌≡◌, ◌++◌, Ok, length, true, is_ok, IsSome, IfOk, OnOk, OnErr};
     ghost use Rattle.action_profile.specs.Profiles.{profile_of};
     ghost use Rattle.action_profile.specs.declared.kind.Kind.{Kind};
     ghost use Rattle.packet_fields.specs.declared.field.Field.{Field};
-    ghost use Rattle.packet_version.specs.Views.{viewed, wrote_all, HasBytes};
+    ghost use Rattle.packet_version.specs.Views.{seen_values, viewed, wrote_all, HasBytes};
+    ghost use Rattle.packet_function.specs.Deciding.{decided};
     ghost use Rattle.nf_mark.specs.Seeing.{shown_in};
-    ghost use Rattle.nf_mark.specs.Markers.{marker_behaviour, tos_for, new_tos};
+    ghost use Rattle.nf_mark.specs.Markers.{marker_behaviour, marker_decides, deciding_place, tos_for, new_tos};
 
     /// Marks one packet through a view of a marker's profile: if the packet has a type of service and meets a rule, it
     /// gets that of the first such rule. It allocates nothing.
@@ -81,6 +84,28 @@ impl Marker {
             Some(rule) => Some(rule.tos),
             None => None,
         }
+    }
+
+    /// Appends the rule that decides what it does to one packet, which it sees through a view of a marker's profile: the
+    /// first that the packet meets, if it has a type of service. If memory runs out, it appends nothing.
+    pub fn decide(&self, view: &View, deciding: &mut Vec<DecidingLine>) -> Result<(), AllocError>
+        requires profile { view.now.profile ≡ marker_behaviour.profile self.now }
+        ensures decided { OnOk result (deciding.new.items ≡
+            deciding.old.items ++ decided marker_behaviour marker_decides view.now.version.fixed self.now (seen_values view.now)) }
+        ensures stays { OnErr result (deciding.new.items ≡ deciding.old.items) }
+    {
+        push_rule(self.deciding_place(view), deciding)
+    }
+
+    // The place of the rule that decides on a packet.
+    fn deciding_place(&self, view: &View) -> Option<usize>
+        requires profile { view.now.profile ≡ profile_of Kind.Marker }
+        ensures { result ≡ deciding_place self.now (shown_in view.now) }
+    {
+        if !has_field(view, Field::Tos) {
+            return None;
+        }
+        first_place(self.rules.as_slice(), &seen_in(view))
     }
 
     /// The same marker once more, with the same rules in memory. The only error is that memory runs out.

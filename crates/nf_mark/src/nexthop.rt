@@ -3,12 +3,14 @@
 mod build;
 mod lines;
 
+use crate::deciding::{first_place, push_rule};
 use crate::link_address::LinkAddress;
 use crate::present::has_field;
 use chain_walk::Verdict;
 use frame_seen::{seen_address, seen_address6};
 use function_lines::{FitRules, Fitting};
 use packet_fields::Field;
+use packet_function::DecidingLine;
 use packet_version::{View, later_write_stands_over, unwritten_stays, written_is_one_value};
 use policy_text::{Match, Seen, TagSeen};
 use std::alloc::AllocError;
@@ -39,14 +41,15 @@ pub struct Nexthop {
 }
 
 impl Nexthop {
-    ghost use Rattle.std.specs.Prelude.{◌≡◌, Ok, true, is_ok, IsSome, IfOk};
+    ghost use Rattle.std.specs.Prelude.{◌≡◌, ◌++◌, Ok, true, is_ok, IsSome, IfOk, OnOk, OnErr};
     ghost use Rattle.std.specs.Option.{option_copied};
     ghost use Rattle.action_profile.specs.Profiles.{profile_of};
     ghost use Rattle.action_profile.specs.declared.kind.Kind.{Kind};
-    ghost use Rattle.packet_version.specs.Views.{viewed, wrote_all};
+    ghost use Rattle.packet_version.specs.Views.{seen_values, viewed, wrote_all};
+    ghost use Rattle.packet_function.specs.Deciding.{decided};
     ghost use Rattle.nf_mark.specs.Seeing.{shown_in};
     ghost use Rattle.nf_mark.specs.NexthopViews.{HasLinks};
-    ghost use Rattle.nf_mark.specs.Nexthops.{nexthop_behaviour, rule_for};
+    ghost use Rattle.nf_mark.specs.Nexthops.{nexthop_behaviour, nexthop_decides, deciding_place, rule_for};
 
     /// Sends one packet on over a link, through a view of a nexthop's profile: if the packet has both link addresses
     /// and a rule's prefix holds its destination, it gets those of the first such rule. It allocates nothing.
@@ -77,6 +80,32 @@ impl Nexthop {
             return None;
         }
         self.rules.first_met(&seen_in(view))
+    }
+
+    /// Appends the rule that decides what it does to one packet, which it sees through a view of a nexthop's profile: the
+    /// first whose prefix holds the destination, if the packet has both link addresses. If memory runs out, it appends
+    /// nothing.
+    pub fn decide(&self, view: &View, deciding: &mut Vec<DecidingLine>) -> Result<(), AllocError>
+        requires profile { view.now.profile ≡ nexthop_behaviour.profile self.now }
+        ensures decided { OnOk result (deciding.new.items ≡
+            deciding.old.items ++ decided nexthop_behaviour nexthop_decides view.now.version.fixed self.now (seen_values view.now)) }
+        ensures stays { OnErr result (deciding.new.items ≡ deciding.old.items) }
+    {
+        push_rule(self.deciding_place(view), deciding)
+    }
+
+    // The place of the rule that decides on a packet.
+    fn deciding_place(&self, view: &View) -> Option<usize>
+        requires profile { view.now.profile ≡ profile_of Kind.Nexthop }
+        ensures { result ≡ deciding_place self.now (shown_in view.now) }
+    {
+        if !has_field(view, Field::LinkDst) {
+            return None;
+        }
+        if !has_field(view, Field::LinkSrc) {
+            return None;
+        }
+        first_place(self.rules.as_slice(), &seen_in(view))
     }
 
     /// The same nexthop once more, with the same rules in memory. The only error is that memory runs out.

@@ -3,11 +3,13 @@
 mod build;
 mod lines;
 
+use crate::deciding::{first_place, push_rule};
 use crate::present::has_field;
 use chain_walk::Verdict;
 use frame_seen::{seen_address, seen_address6, seen_tags};
 use function_lines::{FitRules, Fitting};
 use packet_fields::Field;
+use packet_function::DecidingLine;
 use packet_version::{View, unwritten_stays, written_is_one_value};
 use policy_text::{Match, Seen};
 use std::alloc::AllocError;
@@ -36,13 +38,14 @@ pub struct Tagger {
 }
 
 impl Tagger {
-    ghost use Rattle.std.specs.Prelude.{◌≡◌, Ok, true, is_ok, IsSome, IfOk};
+    ghost use Rattle.std.specs.Prelude.{◌≡◌, ◌++◌, Ok, true, is_ok, IsSome, IfOk, OnOk, OnErr};
     ghost use Rattle.action_profile.specs.Profiles.{profile_of};
     ghost use Rattle.action_profile.specs.declared.kind.Kind.{Kind};
     ghost use Rattle.packet_fields.specs.declared.field.Field.{Field};
-    ghost use Rattle.packet_version.specs.Views.{viewed, wrote_all, seen_parts, HasTagRoom};
+    ghost use Rattle.packet_version.specs.Views.{viewed, wrote_all, seen_parts, seen_values, HasTagRoom};
+    ghost use Rattle.packet_function.specs.Deciding.{decided};
     ghost use Rattle.nf_mark.specs.Seeing.{shown_in};
-    ghost use Rattle.nf_mark.specs.Taggers.{tagger_behaviour, control_for, new_control};
+    ghost use Rattle.nf_mark.specs.Taggers.{tagger_behaviour, tagger_decides, deciding_place, control_for, new_control};
 
     /// Tags one packet through a view of a tagger's profile, in which there is room for one more tag: if the packet
     /// meets a rule, it gets the tag of the first such rule, before the tags that it has. It allocates nothing.
@@ -83,6 +86,28 @@ impl Tagger {
             Some(rule) => Some(rule.control),
             None => None,
         }
+    }
+
+    /// Appends the rule that decides what it does to one packet, which it sees through a view of a tagger's profile: the
+    /// first that the packet meets, if it has a place for tags. If memory runs out, it appends nothing.
+    pub fn decide(&self, view: &View, deciding: &mut Vec<DecidingLine>) -> Result<(), AllocError>
+        requires profile { view.now.profile ≡ tagger_behaviour.profile self.now }
+        ensures decided { OnOk result (deciding.new.items ≡
+            deciding.old.items ++ decided tagger_behaviour tagger_decides view.now.version.fixed self.now (seen_values view.now)) }
+        ensures stays { OnErr result (deciding.new.items ≡ deciding.old.items) }
+    {
+        push_rule(self.deciding_place(view), deciding)
+    }
+
+    // The place of the rule that decides on a packet.
+    fn deciding_place(&self, view: &View) -> Option<usize>
+        requires profile { view.now.profile ≡ profile_of Kind.Tagger }
+        ensures { result ≡ deciding_place self.now (shown_in view.now) }
+    {
+        if !has_field(view, Field::Tag) {
+            return None;
+        }
+        first_place(self.rules.as_slice(), &seen_in(view))
     }
 
     /// The same tagger once more, with the same rules in memory. The only error is that memory runs out.

@@ -1,6 +1,6 @@
 -- Worked rows: what a monitor counts and reports for a few packets, and how a limiter is configured and judges.
 use Rattle.std.proofs.Common.{◌≡◌, ◌-◌, ◌^◌, List, [], ◌∷◌, refl}
-use Rattle.std.specs.Prelude.{ℕ, Some, None, codes, filter_map}
+use Rattle.std.specs.Prelude.{ℕ, false, Option, Some, None, codes, filter_map}
 use Rattle.std.specs.Fmt.{digits}
 use Rattle.std.specs.Net.Addr.{ipv4_bits}
 use Rattle.std.specs.Net.Text.{hex}
@@ -11,14 +11,16 @@ use Rattle.nf_observe.specs.Flows.{with_packet}
 use Rattle.nf_observe.specs.Monitors.{flow_of, flows_after, monitor_by}
 use Rattle.nf_observe.specs.StateLines.{endpoint_text, flow_line, source_line}
 use Rattle.first_sight.specs.Addresses.{dotted}
-use Rattle.chain_walk.specs.Shown.{Values}
+use Rattle.chain_walk.specs.Shown.{Values, Shown}
 use Rattle.chain_walk.specs.Step.{nothing}
 use Rattle.chain_walk.specs.declared.verdict.Verdict.TheVariants.{Pass, Drop}
 use Rattle.nf_observe.specs.Buckets.{full, filled}
 use Rattle.nf_observe.specs.LimiterLines.{line_of}
-use Rattle.nf_observe.specs.Limiters.{limiter_by, limited, limited_by}
+use Rattle.nf_observe.specs.Limiters.{limiter_by, limited, limited_by, limiter_decides}
 use Rattle.nf_observe.specs.declared.limiter.Limiter.{Limiter}
 use Rattle.nf_observe.specs.declared.limiter.lines.LimiterLine.{LimiterLine}
+use Rattle.packet_function.specs.declared.deciding.DecidingLine.TheVariants.{Set}
+use Rattle.packet_function.specs.declared.deciding.SettingKey.TheVariants as keys
 use Rattle.packet_function.specs.declared.flow.FiveTuple.{FiveTuple}
 use Rattle.nf_observe.specs.declared.flow.FlowCounts.{FlowCounts}
 
@@ -167,3 +169,27 @@ drops_in_its_version = refl
 -- without an address or a length a packet passes, and nothing changes
 passes_others : limited_by limiter None (Some 20) 5 ≡ record { after = limiter; verdict = Pass; written = nothing }
 passes_others = refl
+
+-- a packet from 10.1.2.3
+abbrev from_ten : Values
+from_ten SrcIp = Some (10 ∷ 1 ∷ 2 ∷ 3 ∷ [])
+from_ten field = None
+
+-- a millisecond after a burst was spent
+abbrev shown_after : Option ℕ → Values → Shown
+shown_after bytes values = record { values = values; has = λ field. false; fixed = record { time = 1000005; ether_type = Some 2048; proto = Some 17; ip_len = bytes; tcp_flags = None } }
+
+-- the rate decides where the bucket doesn't pay
+decides_unpaid : limiter_decides (with_bucket 0 5) (shown_after (Some 20) from_ten) ≡ Set keys.Rate ∷ []
+decides_unpaid = refl
+
+-- one byte is paid for by what came since, and a new source by its burst
+decides_no_paid : limiter_decides (with_bucket 0 5) (shown_after (Some 1) from_ten) ≡ []
+decides_no_paid = refl
+
+decides_no_new : limiter_decides limiter (shown_after (Some 1500) from_ten) ≡ []
+decides_no_new = refl
+
+-- without a length a packet passes
+decides_no_others : limiter_decides (with_bucket 0 5) (shown_after None from_ten) ≡ []
+decides_no_others = refl

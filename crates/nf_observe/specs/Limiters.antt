@@ -1,14 +1,17 @@
 -- Believed: a limiter: how it is declared, what it lets pass, and the lines that report its state.
-use Rattle.std.specs.Prelude.{ℕ, List, [], Bool, true, false, Option, Some, fold}
+use Rattle.std.specs.Prelude.{ℕ, List, [], ◌∷◌, Bool, true, false, if◌then◌else◌, Option, Some, fold}
 use Rattle.std.specs.Option.{option_map_or}
 use Rattle.std.specs.declared.net.ip_addr.IpAddr.{IpAddr}
 use Rattle.frame_seen.specs.Seeing.{source_address}
 use Rattle.action_profile.specs.Profiles.{profile_of}
 use Rattle.action_profile.specs.declared.kind.Kind.TheVariants as kinds
 use Rattle.chain_walk.specs.Shown.{Shown}
-use Rattle.chain_walk.specs.Step.{Step, Behaviour, nothing}
+use Rattle.chain_walk.specs.Step.{Step, Behaviour, nothing, is_drop}
 use Rattle.chain_walk.specs.declared.verdict.Verdict.{Verdict}
 use Rattle.chain_walk.specs.declared.verdict.Verdict.TheVariants.{Pass, Drop}
+use Rattle.packet_function.specs.Deciding.{Deciding}
+use Rattle.packet_function.specs.declared.deciding.DecidingLine.TheVariants.{Set}
+use Rattle.packet_function.specs.declared.deciding.SettingKey.TheVariants as keys
 use Rattle.nf_observe.specs.Buckets.{full, filled, affords, paid}
 use Rattle.first_sight.specs.FirstSight.{belonging, noted, lines_by}
 use Rattle.first_sight.specs.SameAddress.{is_same_address}
@@ -61,6 +64,10 @@ limiter_step l shown = limited_by l (source_address shown.values) shown.fixed.ip
 -- how limiters behave
 abbrev pub limiter_behaviour : Behaviour Limiter
 limiter_behaviour = record { profile = λ l. profile_of kinds.Limiter; step = limiter_step }
+
+-- the line `set rate` decides on each packet that is dropped
+abbrev pub limiter_decides : Deciding Limiter
+limiter_decides l shown = if is_drop (limiter_step l shown).verdict then Set keys.Rate ∷ [] else []
 
 -- a line for each source
 abbrev pub limiter_text : Limiter → List ℕ

@@ -1,7 +1,8 @@
 -- For proofs: a monitor does what its profile says, and no more.
 use Rattle.std.specs.Prelude.{refl}
 use Rattle.chain_walk.specs.Laws.{KeepsProfile}
-use Rattle.nf_observe.specs.Monitors.{monitor_behaviour}
+use Rattle.packet_function.specs.Deciding.{DecidesDrops}
+use Rattle.nf_observe.specs.Monitors.{monitor_behaviour, monitor_decides}
 
 pub monitor_keeps : KeepsProfile monitor_behaviour
 monitor_keeps = record {
@@ -14,3 +15,7 @@ monitor_keeps = record {
   adds = λ fixed f v h. absurd cc;
   removes = λ fixed f v h. absurd cc;
 }
+
+-- it drops nothing
+pub monitor_decides_drops : DecidesDrops monitor_behaviour monitor_decides
+monitor_decides_drops = record { one = λ fixed m v drops. absurd cc }

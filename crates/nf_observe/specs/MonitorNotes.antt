@@ -5,7 +5,7 @@ use Rattle.action_profile.specs.Profiles.{profile_of}
 use Rattle.action_profile.specs.declared.kind.Kind.TheVariants as kinds
 use Rattle.chain_walk.specs.Notes.{Notes, settled, CountsByNotes}
 use Rattle.chain_walk.specs.Shown.{Shown, shown_by}
-use Rattle.chain_walk.specs.Step.{Step, nothing}
+use Rattle.chain_walk.specs.Step.{nothing}
 use Rattle.chain_walk.specs.declared.verdict.Verdict.TheVariants.{Pass}
 use Rattle.nf_observe.specs.Flows.{counted}
 use Rattle.nf_observe.specs.Monitors.{flow_of, flows_after, monitor_behaviour}

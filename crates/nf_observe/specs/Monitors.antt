@@ -10,6 +10,7 @@ use Rattle.chain_walk.specs.Step.{Step, Behaviour, nothing}
 use Rattle.chain_walk.specs.declared.verdict.Verdict.TheVariants.{Pass}
 use Rattle.function_lines.specs.KindLines.{KindLines, never_clash}
 use Rattle.first_sight.specs.FirstSight.{lines_by}
+use Rattle.packet_function.specs.Deciding.{Deciding}
 use Rattle.nf_observe.specs.Flows.{counted}
 use Rattle.nf_observe.specs.StateLines.{flow_line}
 use Rattle.nf_observe.specs.declared.monitor.build.MonitorLine.{MonitorLine}
@@ -59,6 +60,10 @@ monitor_step m shown = record {
 -- how monitors behave
 abbrev pub monitor_behaviour : Behaviour Monitor
 monitor_behaviour = record { profile = λ m. profile_of kinds.Monitor; step = monitor_step }
+
+-- no line of a monitor decides anything
+abbrev pub monitor_decides : Deciding Monitor
+monitor_decides m shown = []
 
 -- a line for each flow
 abbrev pub monitor_text : Monitor → List ℕ

@@ -1,15 +1,20 @@
 //! Properties of the counts of flows and of token buckets.
-ghost use Rattle.std.specs.Prelude.{◌≡◌, ℕ, ◌+◌, ◌-◌, ◌*◌, ◌≤◌, List, [], ◌∷◌, ◌++◌, true, false, is_some, if◌then◌else◌};
+ghost use Rattle.std.specs.Prelude.{◌≡◌, ℕ, ◌+◌, ◌-◌, ◌*◌, ◌≤◌, List, [], ◌∷◌, ◌++◌, true, false, is_some, if◌then◌else◌, ◌↔◌, Some};
 ghost use Rattle.std.specs.Map.{keys_of};
 ghost use Rattle.std.specs.declared.net.ip_addr.IpAddr.{IpAddr};
 ghost use Rattle.nf_observe.specs.Buckets.{tokens_of, full, filled, affords, paid};
 ghost use Rattle.nf_observe.specs.Counting.{Sight, flows_with, counts_of, of_flow, totals};
 ghost use Rattle.first_sight.specs.FirstSight.{belonging};
+ghost use Rattle.frame_seen.specs.Seeing.{source_address};
+ghost use Rattle.chain_walk.specs.Shown.{Shown};
+ghost use Rattle.chain_walk.specs.declared.verdict.Verdict.{Verdict};
 ghost use Rattle.first_sight.specs.SameAddress.{is_same_address};
 ghost use Rattle.nf_observe.specs.Flows.{counted};
 ghost use Rattle.packet_function.specs.SameFlow.{is_same_flow};
+ghost use Rattle.packet_function.specs.declared.deciding.DecidingLine.{DecidingLine};
+ghost use Rattle.packet_function.specs.declared.deciding.SettingKey.{SettingKey};
 ghost use Rattle.nf_observe.specs.Spending.{Arrival, left_by, bytes_paid, bytes_of, IsConforming, IsWithinRate};
-ghost use Rattle.nf_observe.specs.Limiters.{limited, bucket_of, verdict_by};
+ghost use Rattle.nf_observe.specs.Limiters.{limited, bucket_of, verdict_by, limiter_step, limiter_decides};
 ghost use Rattle.nf_observe.specs.declared.limiter.Limiter.{Limiter};
 ghost use Rattle.nf_observe.specs.declared.bucket.TokenBucket.{TokenBucket};
 ghost use Rattle.packet_function.specs.declared.flow.FiveTuple.{FiveTuple};
@@ -61,3 +66,14 @@ pub fn sources_have_their_own_buckets()
 {
     noted_is_found::<IpAddr, TokenBucket>();
 }
+
+/// A limiter drops a packet exactly where its `set rate` decides, and no line decides on any other packet. `set rate`
+/// decides exactly where the bucket of the source doesn't pay for the packet.
+pub fn set_rate_decides_drops()
+    ensures drops { (l : Limiter) (shown : Shown) →
+        (limiter_decides l shown ≡ DecidingLine.Set SettingKey.Rate ∷ []) ↔ ((limiter_step l shown).verdict ≡ Verdict.Drop) }
+    ensures passes { (l : Limiter) (shown : Shown) → (limiter_decides l shown ≡ []) ↔ ((limiter_step l shown).verdict ≡ Verdict.Pass) }
+    ensures unpaid { (l : Limiter) (shown : Shown) (source : IpAddr) (bytes : ℕ) →
+        source_address shown.values ≡ Some source → shown.fixed.ip_len ≡ Some bytes →
+        (limiter_decides l shown ≡ DecidingLine.Set SettingKey.Rate ∷ []) ↔ (affords (bucket_of l source shown.fixed.time) bytes ≡ false) }
+{}

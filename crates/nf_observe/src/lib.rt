@@ -12,12 +12,14 @@
 //! The tokens of a span of time are computed in 128 bits, and nothing wraps. [`buckets_keep_the_rate`] says that in no
 //! row of packets a bucket pays for more than a burst and what comes at the rate meanwhile, [`conforming_sources_pass`]
 //! that a source which keeps to the rate loses nothing, and [`sources_have_their_own_buckets`] that no source spends
-//! the tokens of another. `set rate` and `set burst` set a limiter up, and both are required: [`Limiter::build`]
-//! returns the least line that is refused.
+//! the tokens of another. [`set_rate_decides_drops`] says that `set rate` decides each drop, and nothing else.
+//! `set rate` and `set burst` set a limiter up, and both are required: [`Limiter::build`] returns the least line that
+//! is refused.
 //!
 //! As functions of a chain they have one meaning each, `monitor_behaviour` of `specs/Monitors.antt` and
 //! `limiter_behaviour` of `specs/Limiters.antt`: what they do as a function of what they see. `monitor_keeps` of
 //! `specs/MonitorLaws.antt` and `limiter_keeps` of `specs/LimiterLaws.antt` say that they keep to their profiles.
+//! `limiter_decides` names the line that decides on a packet ([`Limiter::decide`]); no line of a monitor decides.
 //!
 //! A monitor's step has two parts that may be separated: [`look`] notes the packet, and [`Monitor::settle`] counts what
 //! was noted (`monitor_counts` of `specs/MonitorNotes.antt`). So it may see a packet before it is known whether an
@@ -43,7 +45,7 @@ pub use bucket::TokenBucket;
 pub use flow::FlowCounts;
 pub use laws::{
     buckets_keep_the_rate, conforming_sources_pass, flows_count_their_packets,
-    sources_have_their_own_buckets,
+    set_rate_decides_drops, sources_have_their_own_buckets,
 };
 pub use limiter::{Limiter, LimiterLine};
 pub use monitor::{Monitor, MonitorLine, look};

@@ -9,6 +9,7 @@ use first_sight::FirstSeen;
 use frame_seen::seen_ip_address;
 pub use lines::LimiterLine;
 use packet_fields::Field;
+use packet_function::{DecidingLine, SettingKey};
 use packet_version::{View, unwritten_stays};
 use std::alloc::AllocError;
 use std::net::IpAddr;
@@ -25,13 +26,17 @@ pub struct Limiter {
 }
 
 impl Limiter {
-    ghost use Rattle.std.specs.Prelude.{◌≡◌, ◌<◌, ◌++◌, [], length, slice_index_or, position, IsOk, OnOk, OnErr, IfOk};
+    ghost use Rattle.std.specs.Prelude.{◌≡◌, ◌<◌, ◌++◌, [], ◌∷◌, length, slice_index_or, position, if◌then◌else◌, IsOk, OnOk, OnErr, IfOk};
     ghost use Rattle.std.specs.List.{flat_map};
     ghost use Rattle.std.specs.Map.{keys_of};
-    ghost use Rattle.packet_version.specs.Views.{viewed, wrote_all};
+    ghost use Rattle.chain_walk.specs.Step.{is_drop};
+    ghost use Rattle.packet_version.specs.Views.{seen_values, viewed, wrote_all};
+    ghost use Rattle.packet_function.specs.Deciding.{decided};
+    ghost use Rattle.packet_function.specs.declared.deciding.DecidingLine.{DecidingLine};
+    ghost use Rattle.packet_function.specs.declared.deciding.SettingKey.{SettingKey};
     ghost use Rattle.first_sight.specs.FirstSight.{noted, seen_with};
     ghost use Rattle.first_sight.specs.SameAddress.{is_same_address};
-    ghost use Rattle.nf_observe.specs.Limiters.{limiter_behaviour, limiter_text, bucket_of, limited};
+    ghost use Rattle.nf_observe.specs.Limiters.{limiter_behaviour, limiter_decides, limiter_text, bucket_of, limited};
     ghost use Rattle.nf_observe.specs.StateRows.{limiter_rows};
 
     /// Judges one packet, which it sees through a view of a limiter's profile. It writes nothing. If there is no memory
@@ -53,6 +58,40 @@ impl Limiter {
             (Some(source), Some(bytes)) => self.charge(source, bytes, view.time()),
             _ => Ok(Verdict::Pass),
         }
+    }
+
+    /// Appends the line that decides what it does to one packet in its present state, which it sees through a view of a
+    /// limiter's profile: `set rate` if it drops the packet, and none otherwise. If memory runs out, it appends nothing.
+    pub fn decide(&self, view: &View, deciding: &mut Vec<DecidingLine>) -> Result<(), AllocError>
+        requires profile { view.now.profile ≡ limiter_behaviour.profile self.now }
+        ensures decided { OnOk result (deciding.new.items ≡
+            deciding.old.items ++ decided limiter_behaviour limiter_decides view.now.version.fixed self.now (seen_values view.now)) }
+        ensures stays { OnErr result (deciding.new.items ≡ deciding.old.items) }
+    {
+        match (source_in(view), view.ip_len()) {
+            (Some(source), Some(bytes)) => self.decide_on(source, bytes, view.time(), deciding),
+            _ => Ok(()),
+        }
+    }
+
+    // Appends `set rate` if the bucket of the source doesn't pay for a packet of `bytes` bytes.
+    fn decide_on(
+        &self,
+        source: IpAddr,
+        bytes: u16,
+        time: u64,
+        deciding: &mut Vec<DecidingLine>,
+    ) -> Result<(), AllocError>
+        ensures decided { OnOk result (deciding.new.items ≡
+            deciding.old.items ++ (if is_drop (limited self.now source bytes time).verdict then DecidingLine.Set SettingKey.Rate ∷ [] else [])) }
+        ensures stays { OnErr result (deciding.new.items ≡ deciding.old.items) }
+    {
+        let (_, bucket) = self.place_and_bucket(source, time);
+        if bucket.affords(bytes) {
+            return Ok(());
+        }
+        deciding.push(DecidingLine::Set(SettingKey::Rate))?;
+        Ok(())
     }
 
     /// Appends the lines of its state, one for each source. If memory runs out, it appends nothing.
