@@ -1,7 +1,7 @@
 -- For proofs: a function for tests, which writes into the type of service the number of packets that passed since it
 -- last dropped one, and drops every third packet.
 use Rattle.std.specs.Prelude.{◌≡◌, ◌≤◌, ◌+◌, ℕ, List, [], ◌∷◌, length, Bool, true, false, ◌&&◌, if◌then◌else◌, nat_le, Option, Some, None, is_some, IfSome, IsSomeAnd, refl}
-use Rattle.std.proofs.Common.{ap, sym}
+use Rattle.std.proofs.Common.{◌∙◌, ap, sym, true≢false}
 use Rattle.packet_fields.specs.Frames.{is_tag_list}
 use Rattle.packet_fields.specs.Fields.{IsLengthOf}
 use Rattle.packet_fields.specs.declared.field.Field.{Field}
@@ -9,9 +9,11 @@ use Rattle.packet_fields.specs.declared.field.Field.TheVariants.{Tag, Tos}
 use Rattle.action_profile.specs.Profiles.{plain, writes_of}
 use Rattle.action_profile.specs.declared.rights.Profile.{Profile}
 use Rattle.chain_walk.specs.Shown.{Values}
-use Rattle.chain_walk.specs.Step.{Step, Behaviour, nothing}
+use Rattle.chain_walk.specs.Step.{Step, Behaviour, nothing, is_drop}
 use Rattle.chain_walk.specs.Laws.{KeepsProfile}
 use Rattle.chain_walk.specs.Notes.{Notes, CountsByNotes}
+use Rattle.packet_function.specs.Deciding.{Deciding, DecidesDrops}
+use Rattle.packet_function.specs.declared.deciding.DecidingLine.TheVariants.{Declaration}
 use Rattle.chain_walk.specs.declared.verdict.Verdict.TheVariants.{Pass, Drop}
 
 abbrev pub painter_profile : Profile
@@ -70,3 +72,15 @@ no_notes = record { look = λ f shown. None; settle = λ f note. f }
 
 pub painter_counts : {F N : Type 0} (count : F → ℕ) (make : ℕ → F) → CountsByNotes {N = N} (painter_behaviour count make) no_notes
 painter_counts count make = record { step = λ fixed f v h. absurd cc; stays = λ f note. refl; looks = λ f note shown. refl }
+
+-- it is declared by one line, which decides on each packet that is dropped
+abbrev pub painter_decides : {F : Type 0} → (F → ℕ) → Deciding F
+painter_decides count f shown = if nat_le 2 (count f) then Declaration ∷ [] else []
+
+one_line : {F : Type 0} (drops : Bool) (dropped passed : Step F) → is_drop passed.verdict ≡ false →
+    is_drop (if drops then dropped else passed).verdict ≡ true → length (if drops then Declaration ∷ [] else []) ≡ 1
+one_line true dropped passed passes drop = refl
+one_line false dropped passed passes drop = absurd (true≢false (sym drop ∙ passes))
+
+pub painter_decides_drops : {F : Type 0} (count : F → ℕ) (make : ℕ → F) → DecidesDrops (painter_behaviour count make) (painter_decides count)
+painter_decides_drops count make = record { one = λ fixed f v drop. one_line (nat_le 2 (count f)) _ _ refl drop }

@@ -4,7 +4,7 @@ ghost use Rattle.std.specs.Prelude.{◌∷◌, []};
 
 use action_profile::{FieldSet, Profile};
 use packet_fields::Field;
-use packet_function::{FlowNote, Function};
+use packet_function::{DecidingLine, FlowNote, Function};
 use packet_version::{Verdict, View, unwritten_stays, view_is_formed};
 use std::alloc::{AllocError, Global};
 
@@ -15,6 +15,7 @@ pub struct Painter {
 
 impl Function for Painter {
     ghost use Rattle.functions_tests.specs.Painter.{painter_behaviour, painter_keeps, no_notes, painter_counts};
+    ghost use Rattle.functions_tests.specs.Painter.{painter_decides, painter_decides_drops};
 
     ghost behaviour = { painter_behaviour (λ f. f.count) (λ n. record { count = n }) };
 
@@ -23,6 +24,8 @@ impl Function for Painter {
     ghost lines = { λ f. f.count ∷ [] };
 
     ghost rows = { λ f. (f.count ∷ []) ∷ [] };
+
+    ghost decides = { painter_decides (λ f. f.count) };
 
     fn profile(&self) -> Profile {
         Profile {
@@ -52,6 +55,13 @@ impl Function for Painter {
         Ok(Verdict::Pass)
     }
 
+    fn decide(&self, _view: &View, deciding: &mut Vec<DecidingLine>) -> Result<(), AllocError> {
+        if self.count < 2 {
+            return Ok(());
+        }
+        Ok(deciding.push(DecidingLine::Declaration)?)
+    }
+
     // A painter counts nothing.
     fn look(&self, _view: &View) -> Option<FlowNote> {
         None
@@ -79,6 +89,8 @@ impl Function for Painter {
     }
 
     ghost keeps = { painter_keeps (λ f. f.count) (λ n. record { count = n }) };
+
+    ghost decides_drops = { painter_decides_drops (λ f. f.count) (λ n. record { count = n }) };
 
     ghost counts = { painter_counts (λ f. f.count) (λ n. record { count = n }) };
 }

@@ -1,3 +1,4 @@
+pub mod NetDeciding
 pub mod NetFunctions
 pub mod NetFunctionLaws
 pub mod Builds

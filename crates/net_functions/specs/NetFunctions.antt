@@ -3,18 +3,19 @@ use Rattle.std.specs.Prelude.{ℕ, List, []}
 use Rattle.action_profile.specs.declared.rights.Profile.{Profile}
 use Rattle.chain_walk.specs.Shown.{Shown}
 use Rattle.chain_walk.specs.Step.{Step, Behaviour}
-use Rattle.nf_filter.specs.Firewalls.{firewall_behaviour}
-use Rattle.nf_translate.specs.Nats.{nat_behaviour, mapping_lines}
-use Rattle.nf_translate.specs.Balancers.{balancer_behaviour, flow_lines}
-use Rattle.nf_observe.specs.Monitors.{monitor_behaviour, monitor_text}
-use Rattle.nf_observe.specs.Limiters.{limiter_behaviour, limiter_text}
-use Rattle.nf_mark.specs.Markers.{marker_behaviour}
-use Rattle.nf_mark.specs.Hops.{hop_behaviour}
-use Rattle.nf_mark.specs.Taggers.{tagger_behaviour}
-use Rattle.nf_mark.specs.Untaggers.{untagger_behaviour}
-use Rattle.nf_filter.specs.Signatures.{signature_behaviour}
-use Rattle.nf_mark.specs.Nexthops.{nexthop_behaviour}
-use Rattle.nf_mark.specs.Redactors.{redactor_behaviour}
+use Rattle.packet_function.specs.Deciding.{Deciding}
+use Rattle.nf_filter.specs.Firewalls.{firewall_behaviour, firewall_decides}
+use Rattle.nf_translate.specs.Nats.{nat_behaviour, nat_decides, mapping_lines}
+use Rattle.nf_translate.specs.Balancers.{balancer_behaviour, balancer_decides, flow_lines}
+use Rattle.nf_observe.specs.Monitors.{monitor_behaviour, monitor_decides, monitor_text}
+use Rattle.nf_observe.specs.Limiters.{limiter_behaviour, limiter_decides, limiter_text}
+use Rattle.nf_mark.specs.Markers.{marker_behaviour, marker_decides}
+use Rattle.nf_mark.specs.Hops.{hop_behaviour, hop_decides}
+use Rattle.nf_mark.specs.Taggers.{tagger_behaviour, tagger_decides}
+use Rattle.nf_mark.specs.Untaggers.{untagger_behaviour, untagger_decides}
+use Rattle.nf_filter.specs.Signatures.{signature_behaviour, signature_decides}
+use Rattle.nf_mark.specs.Nexthops.{nexthop_behaviour, nexthop_decides}
+use Rattle.nf_mark.specs.Redactors.{redactor_behaviour, redactor_decides}
 use Rattle.net_functions.specs.declared.net_function.NetFunction.{NetFunction}
 use Rattle.net_functions.specs.declared.net_function.NetFunction.TheVariants.{Firewall, Nat, Balancer, Monitor, Limiter, Marker, Hop, Tagger, Untagger, Signature, Nexthop, Redactor}
 
@@ -53,6 +54,21 @@ step_by (Redactor f) shown = as_any Redactor (redactor_behaviour.step f shown)
 -- how functions of any kind behave
 abbrev pub net_behaviour : Behaviour NetFunction
 net_behaviour = record { profile = profile_by; step = step_by }
+
+-- the lines of its declaration that decide what a function does to a packet
+unfoldable pub net_decides : Deciding NetFunction
+net_decides (Firewall f) shown = firewall_decides f shown
+net_decides (Nat n) shown = nat_decides n shown
+net_decides (Balancer b) shown = balancer_decides b shown
+net_decides (Monitor m) shown = monitor_decides m shown
+net_decides (Limiter l) shown = limiter_decides l shown
+net_decides (Marker f) shown = marker_decides f shown
+net_decides (Hop f) shown = hop_decides f shown
+net_decides (Tagger f) shown = tagger_decides f shown
+net_decides (Untagger f) shown = untagger_decides f shown
+net_decides (Signature f) shown = signature_decides f shown
+net_decides (Nexthop f) shown = nexthop_decides f shown
+net_decides (Redactor f) shown = redactor_decides f shown
 
 -- the lines in which a function reports its state
 unfoldable pub lines_of : NetFunction → List ℕ

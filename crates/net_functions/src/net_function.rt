@@ -5,7 +5,7 @@ use nf_filter::{Firewall, Signature};
 use nf_mark::{Hop, Marker, Nexthop, Redactor, Tagger, Untagger};
 use nf_observe::{Limiter, Monitor, look};
 use nf_translate::{Balancer, Nat};
-use packet_function::{FlowNote, Function};
+use packet_function::{DecidingLine, FlowNote, Function};
 use packet_version::{Verdict, View};
 use std::alloc::{AllocError, Global};
 
@@ -39,7 +39,8 @@ pub enum NetFunction {
 }
 
 impl Function for NetFunction {
-    ghost use Rattle.net_functions.specs.NetFunctions.{net_behaviour, lines_of};
+    ghost use Rattle.net_functions.specs.NetFunctions.{net_behaviour, net_decides, lines_of};
+    ghost use Rattle.net_functions.specs.NetDeciding.{net_decides_drops};
     ghost use Rattle.net_functions.specs.NetFunctionLaws.{net_keeps};
     ghost use Rattle.net_functions.specs.NetNotes.{net_notes, net_counts};
     ghost use Rattle.net_functions.specs.StateRows.{rows_of};
@@ -51,6 +52,8 @@ impl Function for NetFunction {
     ghost lines = { lines_of };
 
     ghost rows = { rows_of };
+
+    ghost decides = { net_decides };
 
     #[tactic(auto, unfolding(crate::specs::NetFunctions::profile_by))]
     fn profile(&self) -> Profile {
@@ -86,6 +89,24 @@ impl Function for NetFunction {
             NetFunction::Signature(signature) => signature.step(view),
             NetFunction::Nexthop(nexthop) => nexthop.step(view),
             NetFunction::Redactor(redactor) => redactor.step(view),
+        }
+    }
+
+    #[tactic(auto, unfolding(crate::specs::NetFunctions::profile_by, crate::specs::NetFunctions::net_decides))]
+    fn decide(&self, view: &View, deciding: &mut Vec<DecidingLine>) -> Result<(), AllocError> {
+        match self {
+            NetFunction::Firewall(firewall) => firewall.decide(view, deciding),
+            NetFunction::Nat(nat) => nat.decide(view, deciding),
+            NetFunction::Balancer(balancer) => balancer.decide(view, deciding),
+            NetFunction::Limiter(limiter) => limiter.decide(view, deciding),
+            NetFunction::Marker(marker) => marker.decide(view, deciding),
+            NetFunction::Hop(hop) => hop.decide(view, deciding),
+            NetFunction::Tagger(tagger) => tagger.decide(view, deciding),
+            NetFunction::Signature(signature) => signature.decide(view, deciding),
+            NetFunction::Nexthop(nexthop) => nexthop.decide(view, deciding),
+            NetFunction::Redactor(redactor) => redactor.decide(view, deciding),
+            // Neither has a line.
+            NetFunction::Monitor(_) | NetFunction::Untagger(_) => Ok(()),
         }
     }
 
@@ -173,6 +194,8 @@ impl Function for NetFunction {
     }
 
     ghost keeps = { net_keeps };
+
+    ghost decides_drops = { net_decides_drops };
 
     ghost counts = { net_counts };
 }

@@ -1,8 +1,10 @@
 -- For proofs: functions with their names do what their profiles say, and no more.
 use Rattle.std.proofs.Common.{ap}
 use Rattle.chain_walk.specs.Laws.{KeepsProfile}
+use Rattle.packet_function.specs.Deciding.{DecidesDrops}
+use Rattle.net_functions.specs.NetDeciding.{net_decides_drops}
 use Rattle.net_functions.specs.NetFunctionLaws.{net_keeps}
-use Rattle.policy_chains.specs.NamedFunctions.{named_behaviour}
+use Rattle.policy_chains.specs.NamedFunctions.{named_behaviour, named_decides}
 
 pub named_keeps : KeepsProfile named_behaviour
 named_keeps = record {
@@ -15,3 +17,7 @@ named_keeps = record {
   adds = λ fixed f v h. net_keeps.adds fixed f.function v h;
   removes = λ fixed f v h. net_keeps.removes fixed f.function v h;
 }
+
+-- exactly one line decides on each packet that is dropped
+pub named_decides_drops : DecidesDrops named_behaviour named_decides
+named_decides_drops = record { one = λ fixed f v drops. net_decides_drops.one fixed f.function v drops }

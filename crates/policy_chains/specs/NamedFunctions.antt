@@ -2,7 +2,8 @@
 use Rattle.std.specs.Prelude.{ℕ, List, map}
 use Rattle.chain_walk.specs.Shown.{Shown}
 use Rattle.chain_walk.specs.Step.{Step, Behaviour}
-use Rattle.net_functions.specs.NetFunctions.{lines_of, net_behaviour}
+use Rattle.packet_function.specs.Deciding.{Deciding}
+use Rattle.net_functions.specs.NetFunctions.{lines_of, net_behaviour, net_decides}
 use Rattle.policy_chains.specs.declared.named.NamedFunction.{NamedFunction}
 
 -- it does what its function does, and keeps its name
@@ -16,6 +17,10 @@ named_step f shown = record {
 -- how functions with their names behave
 abbrev pub named_behaviour : Behaviour NamedFunction
 named_behaviour = record { profile = λ f. net_behaviour.profile f.function; step = named_step }
+
+-- the lines that decide are those of its function
+abbrev pub named_decides : Deciding NamedFunction
+named_decides f shown = net_decides f.function shown
 
 -- the lines in which a function reports its state
 abbrev pub named_lines : NamedFunction → List ℕ

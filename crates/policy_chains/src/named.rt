@@ -2,7 +2,7 @@
 
 use action_profile::Profile;
 use net_functions::NetFunction;
-use packet_function::{FlowNote, Function};
+use packet_function::{DecidingLine, FlowNote, Function};
 use packet_version::{Verdict, View};
 use policy_text::Name;
 use std::alloc::{AllocError, Global};
@@ -15,8 +15,8 @@ pub struct NamedFunction {
 }
 
 impl Function for NamedFunction {
-    ghost use Rattle.policy_chains.specs.NamedFunctions.{named_behaviour, named_lines};
-    ghost use Rattle.policy_chains.specs.NamedFunctionLaws.{named_keeps};
+    ghost use Rattle.policy_chains.specs.NamedFunctions.{named_behaviour, named_decides, named_lines};
+    ghost use Rattle.policy_chains.specs.NamedFunctionLaws.{named_keeps, named_decides_drops};
     ghost use Rattle.policy_chains.specs.NamedNotes.{named_notes, named_counts};
     ghost use Rattle.policy_chains.specs.StateRows.{named_rows};
 
@@ -28,12 +28,18 @@ impl Function for NamedFunction {
 
     ghost rows = { named_rows };
 
+    ghost decides = { named_decides };
+
     fn profile(&self) -> Profile {
         self.function.profile()
     }
 
     fn step(&mut self, view: &mut View) -> Result<Verdict, AllocError> {
         self.function.step(view)
+    }
+
+    fn decide(&self, view: &View, deciding: &mut Vec<DecidingLine>) -> Result<(), AllocError> {
+        self.function.decide(view, deciding)
     }
 
     fn look(&self, view: &View) -> Option<FlowNote> {
@@ -65,6 +71,8 @@ impl Function for NamedFunction {
     }
 
     ghost keeps = { named_keeps };
+
+    ghost decides_drops = { named_decides_drops };
 
     ghost counts = { named_counts };
 }
