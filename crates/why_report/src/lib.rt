@@ -1,2 +1,0 @@
-//! The report of why.
-#![tactic(auto)]
