@@ -27,7 +27,7 @@ const LONGEST_WORD: usize = 4096;
 /// The message if memory ran out before there were packets. It is printed without memory.
 const NO_MEMORY: &str = "nfp: out of memory; no threads were at work\n";
 
-/// The message if there were packets. A thread that can't be started counts as memory that can't be had.
+/// The message if there were packets.
 const NO_MEMORY_FOR_PACKETS: &str = "\
 nfp: out of memory; threads may have been at work, and each takes memory of its own
 nfp:   a smaller --burst, --mergers 1 and for flows --workers 1 take less
