@@ -10,7 +10,7 @@ use std::alloc::AllocError;
 /// Acts on one packet, which the function sees through a view of its own profile: it steps, or if it counts it notes
 /// the packet and settles the note at once, since every function before it let the packet pass. A function that may add
 /// a tag has room for it.
-pub(crate) fn act<F: Function>(function: &mut F, view: &mut View) -> Result<Verdict, AllocError>
+pub fn act<F: Function>(function: &mut F, view: &mut View) -> Result<Verdict, AllocError>
     requires profile { view.old.profile ≡ F.behaviour.profile function.old }
     requires room { (F.behaviour.profile function.old).adds ≡ true → IsSome (seen_parts view.old Field.Tag) → HasTagRoom view.old }
     ensures after { OnOk result (function.new ≡ (viewed F.behaviour function.old view.old).after) }

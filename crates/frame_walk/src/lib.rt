@@ -6,6 +6,8 @@
 //! the only branch of a stage, and puts it together again with what the function wrote. No kind of function has a body
 //! of its own for whole frames.
 //!
+//! [`act`], [`touch_of`] and [`modes`] are the parts of such a turn that other walks share.
+//!
 //! The contracts promise: the packet ends as the walk says, and the functions are as the walk leaves them. If memory
 //! runs out, this holds of the first functions, which passed the packet on, and the others are as before.
 #![tactic(auto)]
@@ -14,5 +16,6 @@ mod acting;
 mod step;
 mod walk;
 
-pub use step::step_frame;
+pub use acting::act;
+pub use step::{modes, step_frame, touch_of};
 pub use walk::walk_chain;

@@ -74,7 +74,7 @@ fn adders(profile: &Profile) -> u32
 }
 
 /// What a function with this profile touches.
-fn touch_of(profile: &Profile) -> Touch
+pub fn touch_of(profile: &Profile) -> Touch
     ensures { HoldsNamed profile.now result }
 {
     Touch {
@@ -84,7 +84,7 @@ fn touch_of(profile: &Profile) -> Touch
 }
 
 /// How a stage with this one branch passes on the fields.
-fn modes(touch: Touch) -> [Mode; 10]
+pub fn modes(touch: Touch) -> [Mode; 10]
     ensures { result ≡ modes_of (touch ∷ []) }
 {
     [

@@ -1,0 +1,3 @@
+pub mod Seeing
+pub mod Turning
+pub mod UnderWay
