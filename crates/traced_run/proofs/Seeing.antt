@@ -1,7 +1,7 @@
 -- What a function sees of a packet that it has whole, and that a function which writes nothing leaves the packet as it is.
-use Rattle.std.proofs.Common.{◌≡◌, ◌∙◌, ◌+◌, ◌*◌, ℕ, Bool, true, false, List, [], ◌∷◌, ◌++◌, sym, ap, refl, subst, arith}
+use Rattle.std.proofs.Common.{◌≡◌, ◌∙◌, ◌+◌, ℕ, Bool, true, false, List, [], ◌∷◌, ◌++◌, sym, ap, refl, subst}
 use mathlib.Core.Path.{fun_ext}
-use Rattle.std.specs.Prelude.{Option, Some, None, is_some, ◌&&◌, ◌||◌, option_map, IsSome, IfSome, if◌then◌else◌, position, nat_lt, not, ◌==◌}
+use Rattle.std.specs.Prelude.{Option, Some, None, is_some, ◌&&◌, ◌||◌, option_map, IfSome, if◌then◌else◌, position, nat_lt, not, ◌==◌}
 use Rattle.std.specs.Option.{option_map_or}
 use Rattle.std.proofs.lemmas.Bool.{eqb-true}
 use Rattle.packet_fields.specs.Fields.{value}
@@ -16,8 +16,8 @@ use Rattle.action_profile.specs.declared.parts.Mode.TheVariants.{Shared}
 use Rattle.action_profile.specs.declared.parts.Touch.{Touch}
 use Rattle.action_profile.specs.declared.rights.Profile.{Profile}
 use Rattle.chain_walk.specs.Laws.{KeepsProfile}
-use Rattle.chain_walk.specs.Shown.{Shown, Values, shown_by, fixed_of}
-use Rattle.chain_walk.specs.Step.{Behaviour, Step, stepped, nothing}
+use Rattle.chain_walk.specs.Shown.{Values, shown_by, fixed_of}
+use Rattle.chain_walk.specs.Step.{Behaviour, stepped, nothing}
 use Rattle.chain_walk.specs.Walk.{applied, frame_after}
 use Rattle.chain_walk.specs.declared.fixed.Fixed.{Fixed}
 use Rattle.packet_function.specs.Deciding.{Deciding, decided}
@@ -125,12 +125,14 @@ false_and false c e = refl
 pub writes_nothing : {F : Type 0} (b : Behaviour F) (fixed : Fixed) (f : F) (v : Values) → KeepsProfile b → ((x : Field) → writes_of (b.profile f) x ≡ false) → (stepped b fixed f v).written ≡ nothing
 writes_nothing b fixed f v keeps silent = fun_ext (λ x. keeps.writes fixed f v x (false_and (writes_of (b.profile f) x) (is_some (v x)) (silent x)))
 
-pub view_stays : {F : Type 0} (b : Behaviour F) (f : F) (view after : PlainView) → KeepsProfile b → ((x : Field) → writes_of (b.profile f) x ≡ false) → wrote_all nothing view ≡ view → after ≡ wrote_all (viewed b f view).written view → after ≡ view
+pub view_stays : {F : Type 0} (b : Behaviour F) (f : F) (view after : PlainView) → KeepsProfile b → ((x : Field) → writes_of (b.profile f) x ≡ false)
+    → wrote_all nothing view ≡ view → after ≡ wrote_all (viewed b f view).written view → after ≡ view
 view_stays b f view after keeps silent same wrote = wrote ∙ ap (λ (v : Values). wrote_all v view) (writes_nothing b view.version.fixed f (seen_values view) keeps silent) ∙ same
 
 -- it passes on the frame as it is
 pub frame_stays : {F : Type 0} (b : Behaviour F) (f : F) (time : ℕ) (frame : List ℕ) (whole : PlainApart) → KeepsProfile b → AreRead → ((x : Field) → writes_of (b.profile f) x ≡ false)
-    → written (over (applied b time f frame).written (fields_of frame)) (rest_of frame) ≡ frame_after b time f frame → whole ≡ taken_apart 1 time frame → joined whole ≡ frame → frame_after b time f frame ≡ frame
+    → written (over (applied b time f frame).written (fields_of frame)) (rest_of frame) ≡ frame_after b time f frame → whole ≡ taken_apart 1 time frame
+    → joined whole ≡ frame → frame_after b time f frame ≡ frame
 frame_stays b f time frame whole keeps read silent together apart again =
     sym together
     ∙ ap (λ (v : Values). written (over v (fields_of frame)) (rest_of frame)) (writes_nothing b (fixed_of time frame) f (fields_of frame) keeps silent)
@@ -165,7 +167,8 @@ parts_stay whole touch time frame read apart none = fun_ext (λ x.
     ∙ ap (λ (m : Parts). option_map unwritten (m x)) (whole_parts whole time frame read apart)
     ∙ fresh_unwritten (spare_room 1 x) (value x frame))
 
-pub fits_again : (whole : PlainApart) (touch : Touch) (p : Profile) (time : ℕ) (frame : List ℕ) (version : PlainVersion) → IsDealt whole touch p time frame version → ((x : Field) → has_write x touch ≡ false)
+pub fits_again : (whole : PlainApart) (touch : Touch) (p : Profile) (time : ℕ) (frame : List ℕ) (version : PlainVersion) → IsDealt whole touch p time frame version
+    → ((x : Field) → has_write x touch ≡ false)
     → IsWhole (packet_parts whole) whole.rest → IfSome version.kept (λ base. IsWhole (rejoined_parts version base) base.rest)
 fits_again whole touch p time frame version dealt_so none fits =
     let same = parts_stay whole touch time frame dealt_so.read dealt_so.apart none in
@@ -173,7 +176,8 @@ fits_again whole touch p time frame version dealt_so none fits =
     (subst (λ (m : Parts). IsWhole m whole.rest) (whole_parts whole time frame dealt_so.read dealt_so.apart ∙ sym same) fits)
 
 -- such a branch leaves the packet as it was
-pub whole_again : (whole left : PlainApart) (touch : Touch) (p : Profile) (time : ℕ) (frame : List ℕ) (version : PlainVersion) → IsDealt whole touch p time frame version → ((x : Field) → has_write x touch ≡ false)
+pub whole_again : (whole left : PlainApart) (touch : Touch) (p : Profile) (time : ℕ) (frame : List ℕ) (version : PlainVersion)
+    → IsDealt whole touch p time frame version → ((x : Field) → has_write x touch ≡ false)
     → IfSome version.kept (λ base. left ≡ record base { parts = as_list (rejoined_parts version base) }) → left ≡ whole
 whole_again whole left touch p time frame version dealt_so none rejoined =
     let back : left ≡ record (based (touch ∷ []) whole) { parts = as_list (rejoined_parts (dealt_whole whole touch) (based (touch ∷ []) whole)) } =
@@ -196,7 +200,8 @@ pub step_same : {F : Type 0} (b : Behaviour F) (f : F) (whole : PlainApart) (tou
     → stepped b version.fixed f (values_of (version_parts version)) ≡ applied b time f frame
 step_same b f whole touch time frame version dealt_so = ap (b.step f) (shows_frame whole touch (b.profile f) time frame version dealt_so)
 
-pub lines_same : {F : Type 0} (b : Behaviour F) (d : Deciding F) (f : F) (whole : PlainApart) (touch : Touch) (time : ℕ) (frame : List ℕ) (version : PlainVersion) (told items first : List DecidingLine)
+pub lines_same : {F : Type 0} (b : Behaviour F) (d : Deciding F) (f : F) (whole : PlainApart) (touch : Touch) (time : ℕ) (frame : List ℕ)
+    (version : PlainVersion) (told items first : List DecidingLine)
     → IsDealt whole touch (b.profile f) time frame version → told ≡ items → items ≡ first ++ decided b d version.fixed f (values_of (version_parts version)) → first ≡ []
     → told ≡ decided b d (fixed_of time frame) f (fields_of frame)
 lines_same b d f whole touch time frame version told items first dealt_so are added none =

@@ -1,5 +1,5 @@
 -- For proofs: one function's turn on a packet that is kept in parts.
-use Rattle.std.specs.Prelude.{◌≡◌, ℕ, List, true, false, if◌then◌else◌, Option, Some, None, IfSome, option_map}
+use Rattle.std.specs.Prelude.{◌≡◌, ℕ, List, true, false, if◌then◌else◌, Option, IfSome, option_map}
 use Rattle.chain_walk.specs.Step.{Behaviour, is_drop}
 use Rattle.chain_walk.specs.Walk.{applied, frame_after}
 use Rattle.frame_walk.specs.Stopping.{handed_on}

@@ -53,7 +53,8 @@ impl Trace {
         dropped: bool,
         frame: &Frame,
     ) -> Result<(), AllocError>
-        ensures { OnOk result (self.new ≡ with_act self.old (record { lines = lines; dropped = dropped; before = frame.now; after = frame.now })) }
+        ensures { OnOk result (self.new ≡ with_act self.old
+            (record { lines = lines; dropped = dropped; before = frame.now; after = frame.now })) }
     {
         let frames = self.frames(alloc, frame, frame)?;
         self.acts.push(TracedAct {
@@ -73,7 +74,8 @@ impl Trace {
         before: &Frame,
         after: &Frame,
     ) -> Result<(), AllocError>
-        ensures { OnOk result (self.new ≡ with_act self.old (record { lines = lines; dropped = false; before = before.now; after = after.now })) }
+        ensures { OnOk result (self.new ≡ with_act self.old
+            (record { lines = lines; dropped = false; before = before.now; after = after.now })) }
     {
         let frames = self.frames(alloc, before, after)?;
         self.acts.push(TracedAct {
@@ -92,7 +94,8 @@ impl Trace {
         before: &Frame,
         after: &Frame,
     ) -> Result<Option<Frames>, AllocError>
-        ensures { IfOk result (λ frames. frames ≡ (if self.now.keeps_frames then Some (record { before = before.now; after = after.now }) else None)) }
+        ensures { IfOk result (λ frames. frames
+            ≡ (if self.now.keeps_frames then Some (record { before = before.now; after = after.now }) else None)) }
     {
         if !self.keeps_frames {
             return Ok(None);

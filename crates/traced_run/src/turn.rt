@@ -43,7 +43,9 @@ pub(crate) fn turn<F: Function, R: Wait>(
     trace: &mut Trace,
 ) -> Result<Option<Parted>, AllocError>
     requires { IsParted packet }
-    ensures { IfOk result (λ left. IsTurned F.behaviour (decided F.behaviour F.decides (fixed_of packet.time packet.frame) function.old (fields_of packet.frame)) packet.time packet.frame function.old function.new left trace.old trace.new) }
+    ensures { IfOk result (λ left. IsTurned F.behaviour
+        (decided F.behaviour F.decides (fixed_of packet.time packet.frame) function.old (fields_of packet.frame))
+        packet.time packet.frame function.old function.new left trace.old trace.new) }
 {
     dealt_is_read();
     frames_come_apart();
@@ -82,7 +84,8 @@ fn decide<F: Function, R: Wait>(
 ) -> Result<Version, AllocError>
     requires profile { profile.now ≡ F.behaviour.profile function.now }
     requires holds { HoldsNamed profile.now version.touch }
-    ensures lines { OnOk result (lines.new.items ≡ lines.old.items ++ decided F.behaviour F.decides version.fixed function.now (values_of (version_parts version))) }
+    ensures lines { OnOk result (lines.new.items ≡ lines.old.items
+        ++ decided F.behaviour F.decides version.fixed function.now (values_of (version_parts version))) }
     ensures version { IfOk result (λ left. left ≡ version) }
 {
     let view = version.view(rt, profile, 1);
@@ -102,8 +105,10 @@ fn look<F: Function, R: Wait>(
     requires profile { profile.now ≡ F.behaviour.profile function.old }
     requires holds { HoldsNamed profile.now version.touch }
     requires silent { (x : Field) → writes_of profile.now x ≡ false }
-    ensures after { OnOk result (function.new ≡ (stepped F.behaviour version.fixed function.old (values_of (version_parts version))).after) }
-    ensures verdict { IfOk result (λ left. left.0 ≡ (stepped F.behaviour version.fixed function.old (values_of (version_parts version))).verdict) }
+    ensures after { OnOk result (function.new
+        ≡ (stepped F.behaviour version.fixed function.old (values_of (version_parts version))).after) }
+    ensures verdict { IfOk result (λ left. left.0
+        ≡ (stepped F.behaviour version.fixed function.old (values_of (version_parts version))).verdict) }
     ensures version { IfOk result (λ left. left.1 ≡ version) }
 {
     let mut view = version.view(rt, profile, 1);

@@ -16,5 +16,6 @@ pub returns-clause-version : goal.returns-clause-version
 returns-clause-version g c =
     let silent = subst (λ (p : Profile). (x : Field) → writes_of p x ≡ false) c.requires.profile c.requires.silent in
     c.end-version.ensures
-    ∙ ap (λ (v : PlainView). v.version) (view_stays g.F.Function.behaviour c.args.function.now c.view-view.result c.act-verdict.new.view g.met.F.Function.keeps silent c.unwritten_stays.ensures.same c.in_ok-verdict.ensures.view)
+    ∙ ap (λ (v : PlainView). v.version) (view_stays g.F.Function.behaviour c.args.function.now c.view-view.result c.act-verdict.new.view
+    g.met.F.Function.keeps silent c.unwritten_stays.ensures.same c.in_ok-verdict.ensures.view)
     ∙ ap (λ (v : PlainView). v.version) c.view-view.ensures
