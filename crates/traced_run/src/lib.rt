@@ -1,4 +1,4 @@
-//! A packet's way through the functions of a chain, with what each of them did to it.
+//! What each function does to a packet on its way through a chain, as a plain body.
 //!
 //! [`trace_chain`] is the plain body of the walk that `traced_walk` defines: before a function acts, it names the lines
 //! of its declaration that decide its step. The result is a [`Trace`]: for each function that the packet reached a
