@@ -21,7 +21,7 @@ use Rattle.call_ending.specs.Notes.{read_fault_text, write_fault_text}
 use Rattle.nfp_run.specs.Preparing.{Unprepared, ByPolicy, ByGraph, prepared}
 use Rattle.nfp_run.specs.declared.prepared.Prepared.{Prepared}
 use Rattle.nfp_run.specs.Due.{Due}
-use Rattle.call_ending.specs.Told.{is_ng}
+use Rattle.call_ending.specs.Told.{IsReadWhole, OfBytes, is_ng}
 use Rattle.nfp_run.specs.Written.{Files}
 
 -- A slot that was never attached: it has no name, and its bytes are those before.

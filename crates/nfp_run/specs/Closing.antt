@@ -15,6 +15,7 @@ use Rattle.capture_run.specs.Running.{Counts, Goes}
 use Rattle.capture_items.specs.Slots.{IsBroken, Puts, PutsPrefixes}
 use Rattle.capture_items.specs.Sources.{IsOpeningFault}
 use Rattle.call_ending.specs.Broken.{broken_by}
+use Rattle.call_ending.specs.Endings.{outcome_seen, text_of}
 use Rattle.nfp_run.specs.Due.{Due}
 use Rattle.nfp_run.specs.Written.{Led, both}
 use Rattle.nfp_run.specs.Answers.{Leaves, LeavesPrefixes}

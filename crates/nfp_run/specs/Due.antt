@@ -22,6 +22,7 @@ use Rattle.capture_items.specs.declared.fault.FormatFault.{FormatFault}
 use Rattle.capture_items.specs.declared.fault.FormatFault.TheVariants.{Ng, Pcap}
 use Rattle.nfp_run.specs.Written.{Files, Led, both, led_ng, led_pcap, neither, out_alone}
 use Rattle.nfp_run.specs.DemoNote.{demo_text}
+use Rattle.call_ending.specs.Told.{is_ng}
 use Rattle.call_ending.specs.Notes.{usage_text, done_text}
 use Rattle.nfp_run.specs.Notes.{flows_text}
 use Rattle.nfp_run.specs.Plan.{plan_text}
