@@ -49,7 +49,7 @@ pub record ReportsAll {X B : Type 0} (chains : List PlainChain) (unit : TimeUnit
   pub whole : IfSome stream (Reports chains unit asked old new ended)
 
 -- It was broken off, and a prefix of the report was put.
-pub record ReportBreaks {X B : Type 0} (chains : List PlainChain) (unit : TimeUnit) (stream : Option (Stream X B)) (old new : Slot → SlotView) (fault : RunFault) : Type 0 where
+pub record ReportBreaks {X B : Type 0} (chains : List PlainChain) (unit : TimeUnit) (asked : Option ℕ) (stream : Option (Stream X B)) (old new : Slot → SlotView) (fault : RunFault) : Type 0 where
   pub goes : Goes old new
   pub cause : IsBroken old new fault
   pub prefixes : IfSome stream (λ s. PutsPrefixes [] (report_given chains unit s) old new)

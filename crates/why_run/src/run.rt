@@ -39,7 +39,7 @@ pub fn run_why<R: Wait, D: Desk, X: Drop, B: Drop, S: Source<X, B> + Drop>(
     requires fresh { S.packets source ≡ 0 }
     requires open { S.is_open source ≡ true }
     ensures ok { IfOk result (ReportsAll service unit asked (S.left source (D.slots desk.old Slot.Capture)) (D.slots desk.old) (D.slots desk.new)) }
-    ensures err { IfErr result (ReportBreaks service unit (S.left source (D.slots desk.old Slot.Capture)) (D.slots desk.old) (D.slots desk.new)) }
+    ensures err { IfErr result (ReportBreaks service unit asked (S.left source (D.slots desk.old Slot.Capture)) (D.slots desk.old) (D.slots desk.new)) }
     ensures drained { IfOk result (λ ended. IfNone ended.fault (S.is_drained (D.slots desk.new Slot.Capture))) }
     ensures capture_name { (D.slots desk.new Slot.Capture).name ≡ (D.slots desk.old Slot.Capture).name }
     ensures others { (s : Slot) → s ≢ Slot.Report → s ≢ Slot.Capture → D.slots desk.new s ≡ D.slots desk.old s }
