@@ -8,11 +8,14 @@
 //! Left out: making the functions ready, and leading packets through them.
 #![tactic(auto)]
 
+mod cutting;
+mod laws;
 mod named;
 mod part;
 mod parts;
 mod taking;
 
+pub use laws::{one_piece_has_the_profiles, the_plan_is_what_runs};
 pub use named::NamedFunction;
 pub use part::ChainPart;
 pub use parts::ChainParts;
