@@ -40,3 +40,10 @@ module _ {A B : Type 0} (f : A → B) (h : ℕ → Option A) where
   pub kept_none : (xs : List ℕ) (i d : ℕ) (now old : List B) → i < length xs → h (get_or xs i d) ≡ None → old ≡ map f (filter_map h (take i xs)) → now ≡ old
       → now ≡ map f (filter_map h (take (i + 1) xs))
   kept_none xs i d now old inside is before same = same ∙ before ∙ sym (kept_more xs i d None inside is ∙ append-nil (map f (filter_map h (take i xs))))
+
+-- one more is made
+pub made_one : {A B : Type 0} (f : A → B) (xs : List A) (i : ℕ) (x : A) (y : B) (old now : List B) → i < length xs → x ≡ get_or xs i x → old ≡ map f (take i xs) → y ≡ f x → now ≡ old ++ y ∷ []
+    → now ≡ map f (take (i + 1) xs)
+made_one f xs i x y old now inside is before made pushed =
+    pushed ∙ (λ j. before j ++ made j ∷ []) ∙ ap (λ z. map f (take i xs) ++ f z ∷ []) is
+    ∙ sym (ap (map f) (take_more xs i x inside) ∙ map-append f (take i xs) (get_or xs i x ∷ []))

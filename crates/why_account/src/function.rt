@@ -24,7 +24,6 @@ pub struct FunctionAccount {
 
 impl FunctionAccount {
     // The account of a function that no packet has reached, in a chain with functions of these names in order.
-    #[tactic(auto, using(crate::proofs::Naming::place_named))]
     fn none(
         alloc: Global,
         names: &[Name],
@@ -61,8 +60,16 @@ impl FunctionAccount {
 fn place_among(names: &[Name], name: &[u8]) -> usize
     ensures { result ≡ unwrap_or (position (λ n. bytes_eq n name.now) names.now) (length names.now) }
 {
-    let found = names.iter().position(|other| other.bytes() == name);
-    found.unwrap_or(names.len())
+    match found_among(names, name) {
+        Some(place) => place,
+        None => names.len(),
+    }
+}
+
+fn found_among(names: &[Name], name: &[u8]) -> Option<usize>
+    ensures { result ≡ position (λ n. bytes_eq n name.now) names.now }
+{
+    names.iter().position(|other| other.bytes() == name)
 }
 
 /// The uses of the functions of a chain, as they are declared. Contracts see the list.
