@@ -1,0 +1,2 @@
+pub mod PacketWays
+pub mod Plain
