@@ -108,8 +108,7 @@ const JOINED: &str =
 
 const LED: &str = "the records before it went through the chains; OUT and REPORT have them";
 
-const TOLD: &str =
-    "the records before it went through the chains; REPORT has what decided on them";
+const TOLD: &str = "the records before it went through the chains; REPORT has what decided on them";
 
 const COUNTED: &str = "the records before it are counted; OUT has their flows";
 

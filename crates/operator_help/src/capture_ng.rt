@@ -1,6 +1,8 @@
 //! What is wrong with a pcapng capture, and how to get one that is read.
 
-use crate::capture::{CUSTOM, Captured, OTHERWISE, Purpose, has_cure, say_cure, say_link, tell_twice};
+use crate::capture::{
+    CUSTOM, Captured, OTHERWISE, Purpose, has_cure, say_cure, say_link, tell_twice,
+};
 use crate::page::Page;
 use pcapng_io::NgFault;
 
