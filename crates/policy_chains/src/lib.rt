@@ -9,5 +9,11 @@
 #![tactic(auto)]
 
 mod named;
+mod part;
+mod parts;
+mod taking;
 
 pub use named::NamedFunction;
+pub use part::ChainPart;
+pub use parts::ChainParts;
+pub use taking::chain_parts;

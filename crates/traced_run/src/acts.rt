@@ -45,6 +45,13 @@ impl Trace {
         }
     }
 
+    /// Removes all acts. Allocates nothing.
+    pub fn clear(&mut self, alloc: Global)
+        ensures { self.new ≡ record self.old { acts = [] } }
+    {
+        self.acts = Items::new(Vec::new(alloc));
+    }
+
     /// Adds an act that left the frame as it was.
     pub(crate) fn add_same(
         &mut self,
@@ -66,8 +73,8 @@ impl Trace {
         Ok(())
     }
 
-    /// Adds an act that passed on a frame.
-    pub(crate) fn add_passed(
+    /// Adds an act that passed on a frame. A function that rewrites a frame whole has no lines.
+    pub fn add_passed(
         &mut self,
         alloc: Global,
         lines: Items<DecidingLine>,

@@ -1,11 +1,13 @@
 //! What holds of the acts of functions on a packet.
-ghost use Rattle.std.specs.Prelude.{◌≡◌, ℕ, List, All, length, sum_by};
+ghost use Rattle.std.specs.Prelude.{◌≡◌, ℕ, List, All, length, map, sum_by};
 ghost use Rattle.chain_walk.specs.Step.{Behaviour};
 ghost use Rattle.chain_walk.specs.Walk.{walk};
 ghost use Rattle.piece_walk.specs.Pieces.{Piece, count_of, long};
 ghost use Rattle.packet_function.specs.Deciding.{Deciding, DecidesDrops};
+ghost use Rattle.service_walk.specs.Service.{Classed, fates_among};
 ghost use Rattle.traced_walk.specs.Following.{Follow, HasCause, IfOut, LedTo, left_by};
 ghost use Rattle.traced_walk.specs.Traced.{long_traced, traced};
+ghost use Rattle.traced_walk.specs.Ways.{ways};
 
 /// Without its acts a trace is the walk.
 #[tactic(auto, using(crate::proofs::AsWalked::same_functions, crate::proofs::AsWalked::same_fate, crate::proofs::AsWalked::same_pieces, crate::proofs::AsWalked::same_long_fate))]
@@ -51,4 +53,13 @@ pub fn a_drop_has_one_line<F>()
     ensures pieces { (b : Behaviour F) (d : Deciding F) (time position : ℕ) (pieces : List (Piece F)) (frame : List ℕ) →
         DecidesDrops b d →
         All HasCause (long_traced b d time position pieces frame).acts }
+{}
+
+/// Among several chains each packet ends as without its acts, and each has one way, with its class.
+#[tactic(auto, using(crate::proofs::Ways::same_fates, crate::proofs::Ways::same_classes))]
+pub fn the_ways_are_the_walk<F>()
+    ensures fates { (b : Behaviour F) (d : Deciding F) (chains : List (List (Piece F))) (xs : List Classed) →
+        map (λ way. way.fate) (ways b d chains xs) ≡ fates_among b chains xs }
+    ensures classes { (b : Behaviour F) (d : Deciding F) (chains : List (List (Piece F))) (xs : List Classed) →
+        map (λ way. way.class) (ways b d chains xs) ≡ map (λ x. x.class) xs }
 {}

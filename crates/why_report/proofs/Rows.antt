@@ -10,7 +10,7 @@ use Rattle.capture_items.specs.FaultLines.{last_line}
 use Rattle.capture_items.specs.Totals.{total_line}
 use Rattle.std.specs.Fmt.{digits}
 use Rattle.why_report.specs.Report.{OrderedChain, chain_lines, chain_text, drop_lines, drop_text, function_lines, function_text, line_text, report_bytes, summary, untaken_text}
-use Rattle.why_report.specs.Ways.{Way}
+use Rattle.traced_walk.specs.Ways.{Way}
 
 firewall : FunctionDecl
 firewall = record {

@@ -1,7 +1,7 @@
 -- Believed: what is reported of why: the line that decided each drop, and how often each function and each of its lines
 -- was used.
 use Rattle.std.specs.Prelude.{ℕ, ◌-◌, ◌==◌, min, List, [], ◌∷◌, ◌++◌, length, map, filter_map, count_by, position, slice_get, Bool, true, false, not, if◌then◌else◌, Option, Some, None, is_none, codes}
-use Rattle.std.specs.List.{flat_map, enumerate_from, list_any}
+use Rattle.std.specs.List.{flat_map, enumerate_from, list_any, zip}
 use Rattle.std.specs.Option.{option_map_or, unwrap_or}
 use Rattle.std.specs.Fmt.{decimal}
 use Rattle.std.specs.Str.{bytes_eq}
@@ -12,16 +12,25 @@ use Rattle.capture_items.specs.declared.fault.FormatFault.{FormatFault}
 use Rattle.chain_walk.specs.declared.walk.Fate.{Fate}
 use Rattle.chain_walk.specs.declared.walk.Fate.TheVariants.{Out, Gone}
 use Rattle.declared_lines.specs.DeclaredLines.{deciders, number_of}
+use Rattle.policy_check.specs.declared.fault.Order.{Order}
 use Rattle.policy_text.specs.declared.policy.ChainPolicy.{ChainPolicy}
 use Rattle.policy_text.specs.declared.policy.FunctionDecl.{FunctionDecl}
 use Rattle.text_lines.specs.Texts.{joined}
 use Rattle.traced_walk.specs.Traced.{Act}
-use Rattle.why_report.specs.Ways.{Way}
+use Rattle.traced_walk.specs.Ways.{Way}
 
 -- A chain: as it is declared, and the declarations of its functions in the order in which a packet goes through them.
 pub record OrderedChain : Type 0 where
   pub declared : ChainPolicy
   pub order : List FunctionDecl
+
+-- a chain with its functions in this order, of places counted from 0 as declared
+abbrev pub in_order : ChainPolicy → Order → OrderedChain
+in_order chain order = record { declared = chain; order = filter_map (λ place. slice_get chain.functions place) order.positions }
+
+-- the chains of a policy, each with its order
+abbrev pub all_in_order : List ChainPolicy → List Order → List OrderedChain
+all_in_order chains orders = map (λ x. in_order x.0 x.1) (zip chains orders)
 
 abbrev pub title : List ℕ
 title = codes "nfp why 1\n"
