@@ -53,45 +53,45 @@ HasNames (Ok asked) new = (s : Slot) → ((new s).name ≡ None) ⊎ ((new s).na
 
 -- ---- whether Report is attached
 
-abbrev pub IsAttached : (Slot → SlotView) → Type 0
-IsAttached new = IsSome (new slots.Report).name
+abbrev pub IsAttached : SlotView → Type 0
+IsAttached report = IsSome report.name
 
-abbrev pub IsFree : (Slot → SlotView) → Type 0
-IsFree new = (new slots.Report).name ≡ None
+abbrev pub IsFree : SlotView → Type 0
+IsFree report = report.name ≡ None
 
 -- a refused head leaves it unattached; it shows a fault after the head
-abbrev pub FaultAttaches : CaptureFault → (Slot → SlotView) → Type 0
-FaultAttaches BadMagic new = IsFree new
-FaultAttaches BadVersion new = IsFree new
-FaultAttaches (BadLink link) new = IsFree new
-FaultAttaches CutHead new = IsFree new
-FaultAttaches (CutRecord number) new = IsAttached new
-FaultAttaches (FrameTooLong number length) new = IsAttached new
-FaultAttaches TooManyRecords new = IsAttached new
+abbrev pub FaultAttaches : CaptureFault → SlotView → Type 0
+FaultAttaches BadMagic report = IsFree report
+FaultAttaches BadVersion report = IsFree report
+FaultAttaches (BadLink link) report = IsFree report
+FaultAttaches CutHead report = IsFree report
+FaultAttaches (CutRecord number) report = IsAttached report
+FaultAttaches (FrameTooLong number length) report = IsAttached report
+FaultAttaches TooManyRecords report = IsAttached report
 
 -- the same for a pcapng capture, whose fault says whether the first block has it
-abbrev pub AttachedUnless : Bool → (Slot → SlotView) → Type 0
-AttachedUnless true new = IsFree new
-AttachedUnless false new = IsAttached new
+abbrev pub AttachedUnless : Bool → SlotView → Type 0
+AttachedUnless true report = IsFree report
+AttachedUnless false report = IsAttached report
 
 -- whether it is attached after this outcome, whatever the desk shows
-abbrev pub ReportAttaches : Outcome → (Slot → SlotView) → Type 0
-ReportAttaches Done new = IsAttached new
-ReportAttaches (Usage fault) new = IsFree new
-ReportAttaches (Policy fault) new = IsFree new
-ReportAttaches (Graph fault) new = IsFree new
-ReportAttaches (Capture fault) new = FaultAttaches fault new
-ReportAttaches (CaptureNg fault) new = AttachedUnless (is_of_first_block fault) new
-ReportAttaches (ReadFault slots.Policy) new = IsFree new
-ReportAttaches (ReadFault slot) new = Unit {0}
-ReportAttaches (WriteFault slots.Note) new = IsAttached new
-ReportAttaches (WriteFault slot) new = Unit {0}
-ReportAttaches OutOfMemory new = Unit {0}
+abbrev pub ReportAttaches : Outcome → SlotView → Type 0
+ReportAttaches Done report = IsAttached report
+ReportAttaches (Usage fault) report = IsFree report
+ReportAttaches (Policy fault) report = IsFree report
+ReportAttaches (Graph fault) report = IsFree report
+ReportAttaches (Capture fault) report = FaultAttaches fault report
+ReportAttaches (CaptureNg fault) report = AttachedUnless (is_of_first_block fault) report
+ReportAttaches (ReadFault slots.Policy) report = IsFree report
+ReportAttaches (ReadFault slot) report = Unit {0}
+ReportAttaches (WriteFault slots.Note) report = IsAttached report
+ReportAttaches (WriteFault slot) report = Unit {0}
+ReportAttaches OutOfMemory report = Unit {0}
 
 -- the same, and never if the words are refused
-abbrev pub AttachesDue : Result WhyAsked UsageFault → Outcome → (Slot → SlotView) → Type 0
-AttachesDue (Ok asked) outcome new = ReportAttaches outcome new
-AttachesDue (Err fault) outcome new = IsFree new
+abbrev pub AttachesDue : Result WhyAsked UsageFault → Outcome → SlotView → Type 0
+AttachesDue (Ok asked) outcome report = ReportAttaches outcome report
+AttachesDue (Err fault) outcome report = IsFree report
 
 -- ---- what was read
 

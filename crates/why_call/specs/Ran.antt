@@ -49,7 +49,7 @@ pub record Ran (asked : Result WhyAsked UsageFault) (old new : Slot → SlotView
   pub prefix : WhereRead asked old (λ p c. LeavesPrefix (due_of_why asked p c).report (old slots.Report) (new slots.Report))
   pub fault_line : IsFaultLine outcome line
   pub names_are : HasNames asked new
-  pub attached : AttachesDue asked outcome new
+  pub attached : AttachesDue asked outcome (new slots.Report)
   pub note_stays : new slots.Note ≡ old slots.Note
   pub usage : (fault : UsageFault) → outcome ≡ Usage fault → asked ≡ Err fault
   pub usage_always : (fault : UsageFault) → asked ≡ Err fault → (outcome ≡ Usage fault) ⊎ (outcome ≡ OutOfMemory)

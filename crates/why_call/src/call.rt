@@ -70,7 +70,7 @@ pub fn why<R: Wait, D: Desk>(rt: &R, alloc: Global, words: &[String], desk: &mut
     // Each attached slot has the name that the words give it.
     ensures names { HasNames (why_of (map string_bytes words.now)) (D.slots desk.new) }
     // Report is attached exactly if the outcome says so, even if the desk shows no bytes.
-    ensures attached { AttachesDue (why_of (map string_bytes words.now)) result (D.slots desk.new) }
+    ensures attached { AttachesDue (why_of (map string_bytes words.now)) result (D.slots desk.new Slot.Report) }
     // Out and Graph aren't touched.
     ensures out_stays { D.slots desk.new Slot.Out ≡ D.slots desk.old Slot.Out }
     ensures graph_stays { D.slots desk.new Slot.Graph ≡ D.slots desk.old Slot.Graph }
