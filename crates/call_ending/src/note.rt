@@ -126,6 +126,7 @@ fn number_text(which: Option4) -> &'static [u8]
         Option4::Mergers => b"usage: number mergers\n",
         Option4::Burst => b"usage: number burst\n",
         Option4::Workers => b"usage: number workers\n",
+        Option4::Record => b"usage: number record\n",
         Option4::Seed => b"usage: number seed\n",
         Option4::Count => b"usage: number count\n",
     }

@@ -7,7 +7,7 @@ use Rattle.policy_text.specs.Names.{names_at}
 use Rattle.policy_chains.specs.Fates.{classed}
 use Rattle.policy_chains.specs.NamedFunctions.{named_behaviour, named_decides}
 use Rattle.policy_chains.specs.Parts.{parts_of}
-use Rattle.policy_chains.specs.Services.{Chains}
+use Rattle.policy_chains.specs.Services.{Chains, pieces_at}
 use Rattle.policy_chains.specs.declared.named.NamedFunction.{NamedFunction}
 use Rattle.service_walk.specs.Service.{Classed, served}
 use Rattle.traced_walk.specs.Ways.{Way, way_of}
@@ -24,6 +24,10 @@ chains_of chains = record {
   names = map (λ c. names_at c.declared.functions c.order.positions) chains;
   pieces = map pieces_in chains;
 }
+
+-- Before its first packet a chain has the pieces of its functions in their order.
+pub record IsPlain (chain : PlainChain) : Type 0 where
+  pub pieces : pieces_in chain ≡ pieces_at chain.declared.functions chain.order.positions
 
 -- the packet of a record, and the chain that takes it
 abbrev pub next_classed : List PlainChain → TimeUnit → PcapRecord → Classed
