@@ -103,7 +103,8 @@ split_first m count b inlets inlets' ends ends' old new n h =
     }
 
 pub split_more : {F : Type 0} (all : List NodeEnds) (m i count : ℕ) (b : Branch F) (inlets inlets' ends ends' : List (List (PlainMessage PlainVersion))) (old new : List (Node F))
-    → new ≡ old ++ node.Replica b ∷ [] → HasFirst m i count b inlets inlets' ends ends' → WillJoin all old (to_replicas m i count inlets ends) → WillJoin all new (to_replicas m (i + 1) count inlets' ends')
+    → new ≡ old ++ node.Replica b ∷ [] → HasFirst m i count b inlets inlets' ends ends'
+    → WillJoin all old (to_replicas m i count inlets ends) → WillJoin all new (to_replicas m (i + 1) count inlets' ends')
 unfolding to_replicas
 split_more all m i count b inlets inlets' ends ends' old new n h was =
     let up : i + 1 ≡ suc i = omega arith in
@@ -140,7 +141,8 @@ split_share k (suc c) xs t f count lt many = λ j.
     ∷ replicas_share k (suc c) xs t f count lt many 1 c j
 
 pub split_joined : {F : Type 0} (k : Kit F) (m : ℕ) (xs : List (PlainMessage PlainApart)) (t : Touch) (f : F) (count : ℕ) (inlets ends : List (List (PlainMessage PlainVersion))) (old new : List (Node F))
-    → 0 < m → length xs ≡ count → inlets ≡ shares m (stream k xs (ToBranch t)) → ends ≡ shares m (stream k xs (FromBranch t f)) → HaveJoined (to_split m count inlets ends) old new → HaveJoined (branch_ends k m xs true t f) old new
+    → 0 < m → length xs ≡ count → inlets ≡ shares m (stream k xs (ToBranch t)) → ends ≡ shares m (stream k xs (FromBranch t f))
+    → HaveJoined (to_split m count inlets ends) old new → HaveJoined (branch_ends k m xs true t f) old new
 split_joined k m xs t f count inlets ends old new lt many i e joined =
     record { all = joined.all ∙ (λ j. map ends_at old ++ to_split m count (i j) (e j)) ∙ ap (λ y. map ends_at old ++ y) (split_share k m xs t f count lt many) }
 
@@ -184,7 +186,8 @@ mergers_share k m s xs count lt many i (suc c) = λ j.
 -- the whole stage
 
 pub on_edges : {F S : Type 0} (k : Kit F) (may : F → ℕ → PlainVersion → Type 0) (m count : ℕ) (s : PlainStage F) (xs : List (PlainMessage PlainApart)) (b : Branches F) (w : WiredStage F S) (bases outlets : List (List (PlainMessage PlainApart))) (inlets : List (List (List (PlainMessage PlainVersion)))) (ordered : List (Node F))
-    → 0 < m → length xs ≡ count → AreWired k may s.parts.touches s.branches m xs b → w.dealer.to.ends.versions ≡ b.versions → w.dealer.to.ends.bases ≡ shares m (stream k xs (ToMergers s.parts.touches)) → w.next ≡ shares m (stream k xs (Behind s))
+    → 0 < m → length xs ≡ count → AreWired k may s.parts.touches s.branches m xs b
+    → w.dealer.to.ends.versions ≡ b.versions → w.dealer.to.ends.bases ≡ shares m (stream k xs (ToMergers s.parts.touches)) → w.next ≡ shares m (stream k xs (Behind s))
     → AreBehind b.nodes.items ordered → HaveJoined (to_mergers m 0 count bases inlets outlets) ordered w.nodes.items
     → bases ≡ shares m (stream k xs (ToMergers s.parts.touches)) → inlets ≡ columns m (came_from k s.parts.touches s.branches xs) → outlets ≡ shares m (stream k xs (Behind s))
     → IsOnEdges k m s xs w

@@ -17,9 +17,10 @@ use Rattle.node_run.specs.declared.wire.WiredStage.{WiredStage}
 abbrev pub numbers : List (PlainMessage PlainApart) → List ℕ
 numbers xs = places 0 1 (length xs)
 
--- The packets that a node takes, by their numbers, in its order (a dealer takes all), and what is due on its ends: for a dealer, on those of the links from its supply, to the nodes of each branch
--- and to the mergers; for a branch or a replica, on those from the dealer and to each of its mergers; for a merger, on
--- those from the dealer, from each branch, and onwards.
+-- The packets that a node takes, by their numbers and in its order, and what is due on its ends: for a dealer, which
+-- takes all packets, on those of the links from its supply, to the nodes of each branch and to the mergers; for a branch
+-- or a replica, on those from the dealer and to each of its mergers; for a merger, on those from the dealer, from each
+-- branch, and onwards.
 pub data NodeEnds : Type 0 where
   DealerEnds : (source : List (List (PlainMessage PlainApart))) (versions : List (List (List (PlainMessage PlainVersion)))) (bases : List (List (PlainMessage PlainApart))) → NodeEnds
   BranchEnds : (own : List ℕ) (inlet : List (PlainMessage PlainVersion)) (outlets : List (List (PlainMessage PlainVersion))) → NodeEnds
@@ -97,8 +98,8 @@ abbrev pub replicas_behind : List NodeEnds → List NodeEnds
 replicas_behind nodes = leads nodes ++ replicas nodes
 
 -- A stage with `m` mergers, to which these packets come, has these nodes and no others. Each takes these packets, and on
--- each of its ends this is due; so it is on the dealer's, and on those from which packets come after the stage. For each branch it says if it
--- is split.
+-- each of its ends this is due; so it is on the dealer's, and on those from which packets come after the stage. For each
+-- branch it says if it is split.
 pub record IsOnEdges {F S : Type 0} (k : Kit F) (m : ℕ) (s : PlainStage F) (xs : List (PlainMessage PlainApart)) (w : WiredStage F S) : Type 0 where
   pub split : List Bool
   pub each : length split ≡ length s.parts.touches

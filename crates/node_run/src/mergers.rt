@@ -60,7 +60,8 @@ fn push_merger<F: BranchWork + Drop>(
 ) -> Result<(), AllocError>
     requires { merger_ready merger }
     ensures nodes { OnOk result ((fs : List F) (c : Field → ℕ) → AreNodes F.kit F.may nodes.old.items fs c → AreNodes F.kit F.may nodes.new.items fs c) }
-    ensures joined { OnOk result (HaveJoined (MergerEnds (places merger.first merger.step merger.count) merger.base merger.inlets merger.to.ends ∷ [])
+    ensures joined { OnOk result (HaveJoined
+        (MergerEnds (places merger.first merger.step merger.count) merger.base merger.inlets merger.to.ends ∷ [])
         nodes.old.items nodes.new.items) }
 {
     nodes.push(Node::Merger(merger))?;

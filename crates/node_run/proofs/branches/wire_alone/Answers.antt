@@ -1,8 +1,8 @@
 use Rattle.std.proofs.Common.{◌∙◌, ap, false, refl, arith, sym}
+use Rattle.stage_nodes.specs.Turns.{places}
 use Rattle.node_run.proofs.Shares.{some_share}
 use Rattle.node_run.proofs.Wiring.{branch_added, fanned_one}
 use Rattle.node_run.proofs.Edging.{alone_joined, fan_alone}
-use Rattle.stage_nodes.specs.Turns.{places}
 use Rattle.node_run.proofs.branches.wire_alone.Goals as goal
 
 pub version_fan-requires-clause-few : goal.version_fan-requires-clause-few

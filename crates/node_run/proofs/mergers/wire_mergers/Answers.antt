@@ -21,9 +21,12 @@ pub take_first-from_branches-requires : goal.take_first-from_branches-requires
 take_first-from_branches-requires g c = (merger_next _ _ _ _ _ _ c.loop-merger-test.true c.loop-merger.invariant.0).inlets_some
 
 pub push_merger-requires : goal.push_merger-requires
-push_merger-requires g c =
-    (c.new-to.ensures.ample, c.new.ensures.items, (merger_next _ _ _ _ _ _ c.loop-merger-test.true c.loop-merger.invariant.0).due _ _ _ _ _ _ _ c.take_first-base.ensures (same_first c.take_first-outlet.ensures c.new-to.ensures.ends) c.take_first-from_branches.ensures c.share_count.ensures.share,
-    few_numbers c.args.mergers c.loop-merger.merger c.share_count.result c.args.count c.requires.few_mergers c.loop-merger-test.true c.share_count.ensures.few c.requires.few)
+push_merger-requires g c = (
+  c.new-to.ensures.ample,
+  c.new.ensures.items,
+  (merger_next _ _ _ _ _ _ c.loop-merger-test.true c.loop-merger.invariant.0).due _ _ _ _ _ _ _ c.take_first-base.ensures (same_first c.take_first-outlet.ensures c.new-to.ensures.ends) c.take_first-from_branches.ensures c.share_count.ensures.share,
+  few_numbers c.args.mergers c.loop-merger.merger c.share_count.result c.args.count c.requires.few_mergers c.loop-merger-test.true c.share_count.ensures.few c.requires.few,
+)
 
 pub loop-merger-preserved : goal.loop-merger-preserved
 loop-merger-preserved g c =
