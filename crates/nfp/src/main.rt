@@ -2,8 +2,9 @@
 //! of a policy, exports the flows of a capture file, and runs a demo.
 //!
 //! The program passes its words to [`nfp_run::nfp`], over files and an open gate, and those behind `why` to
-//! [`why_call::why`]. It exits with the status of the outcome. What these calls promise is the program's theorem. If bytes that the desk had gathered for a file were lost, the call
-//! printed no line, and the program prints the one that names that file.
+//! [`why_call::why`]. It exits with the status of the outcome. What these calls promise is the program's theorem. If
+//! bytes that the desk had gathered for a file were lost, the call printed no line, and the program prints the one that
+//! names that file.
 //!
 //! Words that ask for help or for the version are answered before, and neither call takes one of them for a command. The
 //! option `--sync` of `run` and `flows` is taken out of the words before it, and sets the desk ([`sync`]).
