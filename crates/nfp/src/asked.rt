@@ -28,7 +28,8 @@ nfp runs service chains of network functions over packet captures.
 
 POLICY, CAPTURE and NAME are read, OUT and REPORT are replaced. After -- each word is a name.
 NAME is a text of graphs written by hand, for chains of the policy.
-N is 1 to 16 for --mergers and --workers (2), 1 to 65536 packets for --burst (1024), and 1 to 4294967295 for --record. WAY is inbox or board (inbox).
+N is 1 to 16 for --mergers and --workers (2), 1 to 65536 packets for --burst (1024), and 1 to 4294967295 for --record.
+WAY is inbox or board (inbox).
 --sync brings OUT and REPORT to the disk before the line is printed.
 
 Tools, in a clone and once installed; each prints its words with --help:

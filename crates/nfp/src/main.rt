@@ -1,9 +1,10 @@
-//! `nfp` runs the service chains of a policy over a capture file, says which lines of the policy decided, shows the plan of a policy,
-//! exports the flows of a capture file, and runs a demo.
+//! `nfp` runs the service chains of a policy over a capture file, says which lines of the policy decided, shows the plan
+//! of a policy, exports the flows of a capture file, and runs a demo.
 //!
-//! The program passes its words to [`nfp_run::nfp`], over files and an open gate, and those behind `why` to [`why_call::why`]. It exits
-//! with the status of the outcome. What these calls promise is the program's theorem. If bytes that the desk had gathered for a file were lost, the call
-//! printed no line, and the program prints the one that names that file.
+//! The program passes its words to [`nfp_run::nfp`], over files and an open gate, and those behind `why` to
+//! [`why_call::why`]. It exits with the status of the outcome. What these calls promise is the program's theorem. If
+//! bytes that the desk had gathered for a file were lost, the call printed no line, and the program prints the one that
+//! names that file.
 //!
 //! Words that ask for help or for the version are answered before, and neither call takes one of them for a command. The
 //! option `--sync` of `run` and `flows` is taken out of the words before it, and sets the desk ([`sync`]).
@@ -117,9 +118,9 @@ fn wants_progress(rt: &impl Env) -> bool {
     matches!(rt.var("NFP_PROGRESS", &mut value), Ok(1)) && value[0] == b'1'
 }
 
-// The outcome of the program. If gathered bytes were lost, or can't be brought to the disk, Note has taken nothing, and the line of the first slot that failed is
-// printed here: one that had failed at a call of its own before, or else the one that lost them. Nothing is printed once
-// memory ran out.
+// The outcome of the program. If gathered bytes were lost, or can't be brought to the disk, Note has taken nothing, and
+// the line of the first slot that failed is printed here: one that had failed at a call of its own before, or else the
+// one that lost them. Nothing is printed once memory ran out.
 fn end<S: System + Drop>(
     rt: &(impl Print + AllocGlobal),
     desk: &mut FileDesk<S>,

@@ -5,13 +5,72 @@ use crate::rows::{Row, compare};
 
 const WORDS: &[&str] = &["p", "c", "r"];
 
+const DENYING: &[u8] = b"\
+nfp 1
+chain main
+fn fw firewall
+rule deny src 10.0.0.9
+rule deny dst 10.0.0.77
+fn t hop
+";
+
+const DENIED_REPORT: &[u8] = b"\
+nfp why 1
+drop 2 main fw line 4
+records 2 emitted 1 dropped 1
+no chain took 0
+chain main took 2
+function main fw firewall saw 2 changed 0 dropped 1
+  line 3 hits 1
+  line 4 hits 1
+  line 5 hits 0
+function main t hop saw 1 changed 1 dropped 0
+  line 6 hits 0
+end
+";
+
+const COUNTING: &[u8] = b"\
+nfp 1
+chain main
+fn mon monitor
+fn fw firewall
+rule deny src 10.0.0.9
+order mon before fw
+";
+
+const COUNTED_REPORT: &[u8] = b"\
+nfp why 1
+drop 2 main fw line 5
+records 3 emitted 2 dropped 1
+no chain took 0
+chain main took 3
+function main mon monitor saw 3 changed 0 dropped 0
+function main fw firewall saw 3 changed 0 dropped 1
+  line 4 hits 2
+  line 5 hits 1
+end
+";
+
+const CUT_REPORT: &[u8] = b"\
+nfp why 1
+drop 2 main fw line 5
+records 2 emitted 1 dropped 1
+no chain took 0
+chain main took 2
+function main mon monitor saw 2 changed 0 dropped 0
+function main fw firewall saw 2 changed 0 dropped 1
+  line 4 hits 1
+  line 5 hits 1
+fault capture: cut record 3
+";
+
 // A firewall with a rule that decides and one that doesn't, and a hop.
 const DENIED: Row<'static> = Row {
     words: WORDS,
-    policy: b"nfp 1\nchain main\nfn fw firewall\nrule deny src 10.0.0.9\nrule deny dst 10.0.0.77\nfn t hop\n",
+    policy: DENYING,
     capture: Capture::Classic(&[1, 9]),
     outcome: "Done",
-    report: b"nfp why 1\ndrop 2 main fw line 4\nrecords 2 emitted 1 dropped 1\nno chain took 0\nchain main took 2\nfunction main fw firewall saw 2 changed 0 dropped 1\n  line 3 hits 1\n  line 4 hits 1\n  line 5 hits 0\nfunction main t hop saw 1 changed 1 dropped 0\n  line 6 hits 0\nend\n",
+    report: DENIED_REPORT,
     note: b"done records 2 emitted 1 dropped 1\n",
 };
 
@@ -22,9 +81,9 @@ const IN_BLOCKS: Row<'static> = Row {
 
 // A monitor before a firewall: no line of it can decide.
 const COUNTED: Row<'static> = Row {
-    policy: b"nfp 1\nchain main\nfn mon monitor\nfn fw firewall\nrule deny src 10.0.0.9\norder mon before fw\n",
+    policy: COUNTING,
     capture: Capture::Classic(&[1, 9, 1]),
-    report: b"nfp why 1\ndrop 2 main fw line 5\nrecords 3 emitted 2 dropped 1\nno chain took 0\nchain main took 3\nfunction main mon monitor saw 3 changed 0 dropped 0\nfunction main fw firewall saw 3 changed 0 dropped 1\n  line 4 hits 2\n  line 5 hits 1\nend\n",
+    report: COUNTED_REPORT,
     note: b"done records 3 emitted 2 dropped 1\n",
     ..DENIED
 };
@@ -61,7 +120,7 @@ fn a_record_is_traced_function_by_function(rt: HostRuntime) {
 const CUT: Row<'static> = Row {
     capture: Capture::Cut(&[1, 9, 1]),
     outcome: "Capture(CutRecord(3))",
-    report: b"nfp why 1\ndrop 2 main fw line 5\nrecords 2 emitted 1 dropped 1\nno chain took 0\nchain main took 2\nfunction main mon monitor saw 2 changed 0 dropped 0\nfunction main fw firewall saw 2 changed 0 dropped 1\n  line 4 hits 1\n  line 5 hits 1\nfault capture: cut record 3\n",
+    report: CUT_REPORT,
     note: b"capture: cut record 3\n",
     ..COUNTED
 };
