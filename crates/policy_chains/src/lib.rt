@@ -21,10 +21,10 @@ mod laws;
 mod named;
 mod part;
 mod parts;
-mod taking;
+mod taken;
 
 pub use laws::{one_piece_has_the_profiles, the_plan_is_what_runs};
 pub use named::NamedFunction;
 pub use part::ChainPart;
 pub use parts::ChainParts;
-pub use taking::chain_parts;
+pub use taken::chain_parts;

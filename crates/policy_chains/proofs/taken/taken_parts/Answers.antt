@@ -5,7 +5,7 @@ use Rattle.policy_judge.specs.Making.{place_of}
 use Rattle.policy_chains.specs.Taking.{without}
 use Rattle.policy_chains.proofs.CutSoFar.{cutting_goes_on}
 use Rattle.policy_chains.proofs.Taking.{as_many_left, still_there, taken_back}
-use Rattle.policy_chains.proofs.taking.taken_parts.Goals as goal
+use Rattle.policy_chains.proofs.taken.taken_parts.Goals as goal
 
 pub with_place-requires-clause-untaken : goal.with_place-requires-clause-untaken
 with_place-requires-clause-untaken c =
