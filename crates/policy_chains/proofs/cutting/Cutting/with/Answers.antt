@@ -1,5 +1,5 @@
-use Rattle.chain_service.proofs.Joining.{entry_joins, exit_joins}
-use Rattle.chain_service.proofs.cutting.Cutting.with.Goals as goal
+use Rattle.policy_chains.proofs.Joining.{entry_joins, exit_joins}
+use Rattle.policy_chains.proofs.cutting.Cutting.with.Goals as goal
 
 pub returns-in-Encap : goal.returns-in-Encap
 returns-in-Encap c = entry_joins c.with_tunnel.result c.args.self c.args.name c.args.made c.in-Encap.tunnel c.in-Encap.is (c.with_tunnel.ensures.pieces, c.with_tunnel.ensures.waiting)

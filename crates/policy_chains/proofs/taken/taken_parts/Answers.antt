@@ -2,10 +2,10 @@ use Rattle.std.proofs.Common.{◌∙◌, ap, length, map, sym, take}
 use Rattle.std.specs.Prelude.{slice_index_or}
 use Rattle.std.proofs.lemmas.List.{length-map}
 use Rattle.policy_judge.specs.Making.{place_of}
-use Rattle.chain_service.specs.Taking.{without}
-use Rattle.chain_service.proofs.CutSoFar.{cutting_goes_on}
-use Rattle.chain_service.proofs.Taking.{as_many_left, still_there, taken_back}
-use Rattle.chain_service.proofs.service.pieces.Goals as goal
+use Rattle.policy_chains.specs.Taking.{without}
+use Rattle.policy_chains.proofs.CutSoFar.{cutting_goes_on}
+use Rattle.policy_chains.proofs.Taking.{as_many_left, still_there, taken_back}
+use Rattle.policy_chains.proofs.taken.taken_parts.Goals as goal
 
 pub with_place-requires-clause-untaken : goal.with_place-requires-clause-untaken
 with_place-requires-clause-untaken c =

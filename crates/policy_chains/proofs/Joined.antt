@@ -12,7 +12,7 @@ use Rattle.net_functions.specs.Builds.{function_of, making_of}
 use Rattle.net_functions.specs.declared.making.Made.{Made}
 use Rattle.net_functions.specs.declared.net_function.NetFunction.{NetFunction}
 use Rattle.net_functions.specs.declared.making.Made.TheVariants as made
-use Rattle.chain_service.specs.Cutting.{joined, with_first, with_made}
+use Rattle.policy_chains.specs.Cutting.{joined, with_first, with_made}
 use Rattle.policy_chains.specs.Services.{compiled, is_whole, named, named_of, piece_among, piece_by, pieces_among}
 use Rattle.policy_chains.specs.declared.named.NamedFunction.{NamedFunction}
 

@@ -12,9 +12,9 @@ use Rattle.policy_text.specs.declared.policy.FunctionDecl.{FunctionDecl}
 use Rattle.net_functions.specs.Builds.{function_of}
 use Rattle.net_functions.specs.declared.making.Made.{Made}
 use Rattle.policy_judge.specs.Making.{place_of}
-use Rattle.chain_service.specs.Cutting.{GoesOn, cut_with, with_declared, with_made}
-use Rattle.chain_service.specs.Taking.{without, without_all}
-use Rattle.chain_service.specs.declared.cutting.Cutting.{Cutting}
+use Rattle.policy_chains.specs.Cutting.{GoesOn, cut_with, with_declared, with_made}
+use Rattle.policy_chains.specs.Taking.{without, without_all}
+use Rattle.policy_chains.specs.declared.cutting.Cutting.{Cutting}
 
 -- 1 if the two places are equal
 abbrev one_at : ℕ → ℕ → ℕ
@@ -116,5 +116,4 @@ goes_on_so declared made place d e name function old new same inside declared_th
               ∙ ap (λ n. cut_with old (with_made n function later)) name_is
               ∙ ap (λ f. cut_with old (with_made decl.name f later)) function_is
               ∙ sym (ap (λ o. cut_with old (option_map_or (λ x. with_made x.name (function_of x) later) o later)) is);
-          longer = goes.longer;
         }

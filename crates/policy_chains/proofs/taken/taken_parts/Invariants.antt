@@ -1,8 +1,8 @@
 use Rattle.std.proofs.Common.{◌≡◌, map, take}
 use Rattle.policy_judge.specs.Making.{place_of}
-use Rattle.chain_service.specs.Taking.{without_all}
-use Rattle.chain_service.proofs.CutSoFar.{IsCutSoFar}
-use Rattle.chain_service.proofs.service.pieces.Given as goal
+use Rattle.policy_chains.specs.Taking.{without_all}
+use Rattle.policy_chains.proofs.CutSoFar.{IsCutSoFar}
+use Rattle.policy_chains.proofs.taken.taken_parts.Given as goal
 
 abbrev pub invariant-places : goal.invariant-places
 invariant-places l = record {

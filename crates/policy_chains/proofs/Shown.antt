@@ -14,9 +14,9 @@ use Rattle.net_functions.specs.declared.making.Made.{Made}
 use Rattle.net_functions.specs.declared.making.Made.TheVariants as made
 use Rattle.policy_chains.specs.NamedFunctions.{named_behaviour}
 use Rattle.policy_chains.specs.Services.{declared_at, is_whole, named_of, piece_among, piece_by, pieces_at}
-use Rattle.chain_service.specs.Shown.{stages_run, stages_shown}
-use Rattle.chain_service.proofs.Joined.{IsMade, front_by, is_entry, is_made, is_plain, named_first, or_false, first_false}
-use Rattle.chain_service.proofs.Written.{HasProfile, none_past, profile_declared, profile_made, profiles_at}
+use Rattle.policy_chains.specs.Shown.{stages_run, stages_shown}
+use Rattle.policy_chains.proofs.Joined.{IsMade, front_by, is_entry, is_made, is_plain, named_first, or_false, first_false}
+use Rattle.policy_chains.proofs.Profiled.{HasProfile, none_past, profile_declared, profile_made, profiles_at}
 
 -- the declarations at places
 abbrev declared_in : List FunctionDecl → List ℕ → List FunctionDecl

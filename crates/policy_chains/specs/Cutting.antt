@@ -1,5 +1,5 @@
 -- For proofs: a chain that is being cut into pieces, from its first function on.
-use Rattle.std.specs.Prelude.{◌≡◌, ◌≤◌, ◌+◌, ℕ, List, [], ◌∷◌, ◌++◌, length, slice_get}
+use Rattle.std.specs.Prelude.{◌≡◌, ℕ, List, [], ◌∷◌, ◌++◌, slice_get}
 use Rattle.std.specs.Option.{option_map_or}
 use Rattle.policy_text.specs.declared.policy.FunctionDecl.{FunctionDecl}
 use Rattle.net_functions.specs.Builds.{function_of}
@@ -7,9 +7,9 @@ use Rattle.net_functions.specs.declared.making.Made.{Made}
 use Rattle.net_functions.specs.declared.making.Made.TheVariants as made
 use Rattle.nf_tunnel.specs.Tunnels.{encapsulated, decapsulated}
 use Rattle.piece_walk.specs.Pieces.{Piece, Graph, Whole}
-use Rattle.segment_run.specs.Segments.{pieces_of}
+use Rattle.policy_chains.specs.Parts.{parts_of}
 use Rattle.policy_chains.specs.Services.{compiled}
-use Rattle.chain_service.specs.declared.cutting.Cutting.{Cutting}
+use Rattle.policy_chains.specs.declared.cutting.Cutting.{Cutting}
 use Rattle.policy_chains.specs.declared.named.NamedFunction.{NamedFunction}
 
 -- the piece of functions in a row, if there is one
@@ -40,12 +40,11 @@ with_all (f ∷ functions) later = with_first f (with_all functions later)
 
 -- the chain that is cut so far, with the pieces of what comes after
 abbrev pub cut_with : Cutting → List (Piece NamedFunction) → List (Piece NamedFunction)
-cut_with cutting later = pieces_of cutting.pieces.items ++ with_all cutting.waiting.items later
+cut_with cutting later = parts_of cutting.parts.items ++ with_all cutting.waiting.items later
 
 -- The chain has one more function, which is before what comes after.
 pub record GoesOn (old new : Cutting) (with_one : List (Piece NamedFunction) → List (Piece NamedFunction)) : Type 0 where
   pub joined : (later : List (Piece NamedFunction)) → cut_with new later ≡ cut_with old (with_one later)
-  pub longer : length new.waiting.items ≤ length old.waiting.items + 1
 
 -- the function that is declared at a place, before the pieces of those after it
 abbrev pub with_declared : List FunctionDecl → ℕ → List (Piece NamedFunction) → List (Piece NamedFunction)
