@@ -1,5 +1,5 @@
 //! The account of a capture's packets.
-ghost use Rattle.std.specs.Prelude.{◌≡◌, ◌<◌, ◌≤◌, ◌^◌, [], true, is_none};
+ghost use Rattle.std.specs.Prelude.{◌≡◌, ◌<◌, ◌≤◌, ◌^◌, if◌then◌else◌};
 ghost use Rattle.why_report.specs.Report.{is_gone};
 ghost use Rattle.why_account.specs.Accounts.{NotesWay};
 
@@ -26,20 +26,18 @@ impl Account {
         ensures { NotesWay class fate.now acts.now self.old self.new }
     {
         self.totals.records += 1;
-        if is_gone(fate) {
-            self.totals.dropped += 1;
-        }
+        self.totals.dropped += dropped(fate);
         self.untaken = raised(self.untaken, class.is_none());
         self.chains.note(class, acts);
     }
 }
 
-// Was the packet dropped?
-fn is_gone(fate: &Fate) -> bool
-    ensures { result ≡ is_gone fate.now }
+// The number of dropped packets that this is.
+fn dropped(fate: &Fate) -> u64
+    ensures { result ≡ (if is_gone fate.now then 1 else 0) }
 {
     match fate {
-        Fate::Out(_) => false,
-        Fate::Gone(_) => true,
+        Fate::Out(_) => 0,
+        Fate::Gone(_) => 1,
     }
 }

@@ -12,6 +12,9 @@
 //! format, and where the trace goes.
 #![tactic(auto)]
 
+mod records;
 mod run;
+mod summary;
+mod telling;
 
 pub use run::{WhyEnded, run_why};
