@@ -3,7 +3,7 @@ ghost use Rattle.std.specs.Prelude.{◌≡◌, ◌≢◌, ◌≤◌, IfOk};
 ghost use Rattle.nfp_outside.specs.declared.slot.Slot.{Slot};
 ghost use Rattle.call_ending.specs.Endings.{NotesLine};
 ghost use Rattle.call_ending.specs.Results.{outcome_of};
-ghost use Rattle.why_call.specs.Ending.{IsEndingOf, IsMissing, TracedEnds, UntracedEnds};
+ghost use Rattle.why_call.specs.Ending.{broken, IsEndingOf, IsMissing, TracedEnds, UntracedEnds};
 ghost use Rattle.why_call.specs.Ran.{IsWithin, why_line, why_outcome};
 
 use call_ending::{Ending, Outcome, put_line, put_note};
@@ -47,7 +47,7 @@ pub fn ending_of(
 {
     match ran {
         Ok(ended) => traced(alloc, asked, ended.totals, ended.fault, ended.trace),
-        Err(fault) => WhyEnding::Ended(Ending::Stopped(fault.into())),
+        Err(fault) => WhyEnding::Ended(Ending::Stopped(broken(fault))),
     }
 }
 
@@ -97,6 +97,18 @@ fn missing(alloc: Global, number: u32) -> Ending
     match push_missing_line(alloc, &mut text, u64::from(number)) {
         Ok(()) => Ending::Shown(Items::new(text)),
         Err(_) => Ending::Stopped(Outcome::OutOfMemory),
+    }
+}
+
+// The outcome of a run that was broken off. Only Report was written.
+fn broken(fault: RunFault) -> Outcome
+    ensures { result ≡ broken fault }
+{
+    match fault {
+        RunFault::ReadFault => Outcome::ReadFault(Slot::Capture),
+        RunFault::WriteFault(Slot::Report) => Outcome::WriteFault(Slot::Report),
+        RunFault::WriteFault(_) => Outcome::OutOfMemory,
+        RunFault::OutOfMemory => Outcome::OutOfMemory,
     }
 }
 

@@ -14,7 +14,6 @@ ghost use Rattle.why_call.specs.Due.{why_due};
 
 /// A law: if the words are accepted, and neither the policy nor the capture has a fault, the result that is due is Done.
 /// With the clause `answers` of [`crate::why`], such a call returns Done, or runs out of memory, if no slot failed.
-#[tactic(auto, using(crate::proofs::GoodWhys::pcap_is_done, crate::proofs::GoodWhys::ng_is_done))]
 pub fn a_good_why_is_done()
     ensures pcap { (words : List (List ℕ)) → (asked : WhyAsked) → (p c : List ℕ) → (policy : Judged) → (head : CaptureHead) → (records : List PcapRecord) →
         why_of words ≡ Ok asked → judged p ≡ Ok policy → capture_of c ≡ Ok (head, record { records = records; fault = None }) → (why_due words p c).outcome ≡ Outcome.Done }
