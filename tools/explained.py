@@ -178,7 +178,7 @@ def traced(lines):
     for line in lines:
         words = line.split()
         if line.startswith('function '):
-            functions.append(Traced(words[1], words[3], [int(word) for word in words[5:]], []))
+            functions.append(Traced(words[1], words[3], [int(word) for word in words[5::2]], []))
         elif line.startswith('  '):
             functions[-1].values.append(words)
     return functions

@@ -127,8 +127,8 @@ def walk_rows(walk):
     for each in walk.functions.values():
         yield 'functions', (each.chain, each.name, each.kind, each.line, each.seen, each.dropped, each.changed)
         yield from (('rules', (each.chain, each.name, rule.line, rule.text, rule.packets)) for rule in each.rules())
-    for record, function, cause, source in walk.drops:
-        yield 'drops', (record, function.chain, function.name, cause.reason, cause.lines[0] if cause.lines else None, source or None)
+    for drop in walk.drops:
+        yield 'drops', (drop.record, drop.function.chain, drop.function.name, drop.cause.reason, drop.cause.lines[0] if drop.cause.lines else None, drop.source or None)
     for function, cause, lot in walk.sources():
         lead = function.chain, function.name, cause.reason, cause.lines[0] if cause.lines else None
         yield from (('sources', (*lead, source or None, packets)) for source, packets in lot)

@@ -158,6 +158,7 @@ class Cause(typing.NamedTuple):
 # The reasons. The first three are followed by lines, but for a default that no line states.
 RULE, DEFAULT, PATTERN = 'rule', 'default', 'pattern'
 NO_PORT, NOBODY, NO_TOKENS, NO_HOPS = 'no port left', 'a port that nobody has', 'no tokens', 'time to live'
+LEAVES, COMES = 'outbound and translated', 'inbound and translated'
 NOTHING = Cause('nothing')
 
 
@@ -238,6 +239,7 @@ class Nat(Function):
             self.endpoint_of[packet.proto, self.port_of[endpoint]] = endpoint
         packet.put('src', self.public)
         packet.put('sport', self.port_of[endpoint])
+        self.cause = Cause(LEAVES)
         return True
 
     def come(self, packet):
@@ -246,6 +248,7 @@ class Nat(Function):
         _, address, port = self.endpoint_of[packet.proto, packet.get('dport')]
         packet.put('dst', address)
         packet.put('dport', port)
+        self.cause = Cause(COMES)
         return True
 
     def lines(self):
