@@ -5,7 +5,7 @@ use Rattle.nfp_outside.specs.declared.slot.Slot.TheVariants.{Policy, Capture, Ou
 use Rattle.text_lines.specs.Texts.{joined}
 use Rattle.capture_items.specs.Totals.{total_line}
 use Rattle.command_words.specs.declared.usage.Option4.{Option4}
-use Rattle.command_words.specs.declared.usage.Option4.TheVariants.{Mergers, Burst, Workers, Seed, Count}
+use Rattle.command_words.specs.declared.usage.Option4.TheVariants.{Mergers, Burst, Workers, Record, Seed, Count}
 use Rattle.command_words.specs.declared.usage.UsageFault.{UsageFault}
 use Rattle.command_words.specs.declared.usage.UsageFault.TheVariants.{NoCommand, UnknownCommand, Words, Number, Merge, SameName}
 
@@ -14,6 +14,7 @@ abbrev pub number_text : Option4 → List ℕ
 number_text Mergers = codes "usage: number mergers\n"
 number_text Burst = codes "usage: number burst\n"
 number_text Workers = codes "usage: number workers\n"
+number_text Record = codes "usage: number record\n"
 number_text Seed = codes "usage: number seed\n"
 number_text Count = codes "usage: number count\n"
 

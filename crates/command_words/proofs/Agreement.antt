@@ -6,11 +6,12 @@ use Rattle.clap.specs.Faults.{built_fault, entered_fault, fault_of}
 use Rattle.clap.specs.Simple.{entered, is_simple, matches_of}
 use Rattle.clap.specs.Faults.{is_simple_and_free}
 use Rattle.clap.specs.Walk.{Row, Rule, Text, first_of, idle, nothing_held, rows_after, walk}
-use Rattle.command_words.specs.Apps.{run_app, plan_app, demo_app, flows_app, run_names, plan_names, demo_names, flows_names}
+use Rattle.command_words.specs.Apps.{run_app, plan_app, demo_app, flows_app, why_app, run_names, plan_names, demo_names, flows_names, why_names}
+use Rattle.command_words.specs.WhyWords.{why_options}
 use Rattle.command_words.specs.Given.{all_differ, contains, value_given}
 use Rattle.command_words.specs.Words.{demo_options, flows_options, plan_options, run_options}
 use Rattle.command_words.specs.Roles.{Role, anything, is_fit, is_whole, names_in, option_names, options_in, roles}
-use Rattle.command_words.proofs.Table.{Indexed, HasIds, app_with, by_long, by_short, demo_ids, demo_indexed, flows_ids, flows_indexed, id_found, no_default_fault, no_defaults, plan_ids, plan_indexed, required_names, run_ids, run_indexed, table}
+use Rattle.command_words.proofs.Table.{Indexed, HasIds, app_with, by_long, by_short, demo_ids, demo_indexed, flows_ids, flows_indexed, id_found, no_default_fault, no_defaults, plan_ids, plan_indexed, required_names, run_ids, run_indexed, table, why_ids, why_indexed}
 use Rattle.command_words.proofs.Walking.{Agrees, AllUtf8, Rests, Serves, Use, agrees, fails, placed, rows_for}
 use Rattle.command_words.proofs.Placing.{AllDiffer, Before, Fits, NoneHas, NoneIsOption, fits, is_whole_from, roles_give, value_is}
 
@@ -104,6 +105,11 @@ pub flows_reads : (words : List Text) → AllUtf8 words
 flows_reads words u = reads_table flows_app.top.name flows_names flows_options flows_ids flows_indexed
     ((refl, tt), (tt, tt)) (refl, (refl, tt)) words u
 
+pub why_reads : (words : List Text) → AllUtf8 words
+    → Reads why_names why_options (fault_of why_app words) (matches_of why_app words) (roles why_options anything words) (is_whole 3 (roles why_options anything words))
+why_reads words u = reads_table why_app.top.name why_names why_options why_ids why_indexed
+    ((refl, (refl, tt)), ((refl, tt), (tt, tt))) (refl, (refl, (refl, tt))) words u
+
 pub run_is_simple : (is_simple run_app ≡ true) × (is_simple_and_free run_app ≡ true)
 run_is_simple = (refl, refl)
 
@@ -115,3 +121,6 @@ demo_is_simple = (refl, refl)
 
 pub flows_is_simple : (is_simple flows_app ≡ true) × (is_simple_and_free flows_app ≡ true)
 flows_is_simple = (refl, refl)
+
+pub why_is_simple : (is_simple why_app ≡ true) × (is_simple_and_free why_app ≡ true)
+why_is_simple = (refl, refl)

@@ -1,18 +1,20 @@
 -- The answer by the words that `clap` matched is the answer by the definitions.
-use Rattle.std.proofs.Common.{◌≡◌, ◌∙◌, ◌⊎◌, ◌==◌, ◌&&◌, ℕ, Bool, cond, true, false, not, refl, sym, ap, subst, List, [], ◌∷◌, map, length, Option, Some, None, Err, codes, ⊎_elim, true≢false}
+use Rattle.std.proofs.Common.{◌≡◌, ◌∙◌, ◌⊎◌, ◌==◌, ◌&&◌, ℕ, Bool, cond, true, false, not, refl, sym, ap, subst, List, [], ◌∷◌, map, length, Option, Some, None, Err, Result, codes, ⊎_elim, true≢false}
 use Rattle.std.specs.Prelude.{⊤}
 use Rattle.std.specs.List.{list_all}
 use Rattle.std.specs.Str.{bytes_eq}
 use Rattle.clap.specs.Words.{Text, first_value, found_of}
 use Rattle.clap.specs.declared.parser.matches.ArgMatches.{ArgMatches}
+use Rattle.command_words.specs.declared.usage.UsageFault.{UsageFault}
 use Rattle.command_words.specs.declared.usage.UsageFault.TheVariants as fault
 use Rattle.command_words.specs.declared.usage.WordsFault.{WordsFault}
 use Rattle.command_words.specs.declared.usage.WordsFault.TheVariants as error
-use Rattle.command_words.specs.Apps.{demo_names, flows_names, plan_names, run_names}
-use Rattle.command_words.specs.Matched.{Matches, demo_read, flow_options_have_text, flows_read, four_names, given_has_text, options_have_text, plan_read, run_options_have_text, run_read}
-use Rattle.command_words.specs.Named.{ReadsWords}
+use Rattle.command_words.specs.Apps.{demo_names, flows_names, plan_names, run_names, why_names}
+use Rattle.command_words.specs.Matched.{Matches, demo_read, flow_options_have_text, flows_read, four_names, given_has_text, options_have_text, plan_read, run_options_have_text, run_read, why_read}
+use Rattle.command_words.specs.Named.{ReadsWhy, ReadsWords}
 use Rattle.command_words.specs.Roles.{Role, anything, gives, is_fit, is_whole, name, names_in, opens, option_names, options_in, roles, separator, unfit}
 use Rattle.command_words.specs.Given.{Given, Word, all_differ, contains, given_by, has_text, value_given}
+use Rattle.command_words.specs.WhyWords.{why_by, why_of, why_options}
 use Rattle.command_words.specs.Words.{Answer, answer_by, demo_by, demo_of, demo_options, flows_by, flows_of, flows_options, plan_by, plan_of, plan_options, run_by, run_of, run_options}
 use Rattle.command_words.proofs.Givens.{fit_given, given_of, same_given, sieved, texts}
 use Rattle.command_words.proofs.Placing.{GivesOnly, eq_sym, roles_give}
@@ -28,7 +30,7 @@ and_true false = refl
 
 -- ---- the answer by the parts of the words, by their roles
 
-sieved_answer : (answer : List Word → List (Word × Word) → Answer) (o : Option Given) → answer_by answer o ≡ answer_by answer (sieved o)
+sieved_answer : {X : Type 0} → (answer : List Word → List (Word × Word) → Result X UsageFault) (o : Option Given) → answer_by answer o ≡ answer_by answer (sieved o)
 sieved_answer answer None = refl
 sieved_answer answer (Some g) = go (texts g) (all_differ (map (λ o. o.0) g.options)) refl refl
   where
@@ -36,13 +38,13 @@ sieved_answer answer (Some g) = go (texts g) (all_differ (map (λ o. o.0) g.opti
     go true d ed et = rw (et, ed) refl
     go false d ed et = refl
 
-role_answer : (known words : List Word) (answer : List Word → List (Word × Word) → Answer)
+role_answer : {X : Type 0} → (known words : List Word) (answer : List Word → List (Word × Word) → Result X UsageFault)
     → answer_by answer (given_by known None words) ≡ answer_by answer (fit_given (roles known anything words))
 role_answer known words answer =
     sieved_answer answer (given_by known None words) ∙ ap (answer_by answer) (same_given known None words) ∙ sym (sieved_answer answer (fit_given (roles known anything words)))
 
 -- if they make up a command
-whole_answer : (n : ℕ) (known words : List Word) (answer : List Word → List (Word × Word) → Answer) → is_whole n (roles known anything words) ≡ true
+whole_answer : {X : Type 0} → (n : ℕ) (known words : List Word) (answer : List Word → List (Word × Word) → Result X UsageFault) → is_whole n (roles known anything words) ≡ true
     → answer_by answer (given_by known None words)
     ≡ cond (texts (given_of (roles known anything words))) (answer (names_in (roles known anything words)) (options_in (roles known anything words))) (Err fault.Words)
 whole_answer n known words answer e =
@@ -52,7 +54,7 @@ whole_answer n known words answer e =
     role_answer known words answer ∙ rw (fit.0, rest.1, and_true (texts (given_of rs))) refl
 
 -- an answer that needs this number of names
-abbrev pub Wants : ℕ → (List Word → List (Word × Word) → Answer) → Type 0
+abbrev pub Wants : {X : Type 0} → ℕ → (List Word → List (Word × Word) → Result X UsageFault) → Type 0
 Wants n answer = (names : List Word) (options : List (Word × Word)) → (length names == n) ≡ false → answer names options ≡ Err fault.Words
 
 run_wants : Wants 4 run_by
@@ -80,18 +82,25 @@ flows_wants (a ∷ []) options e = refl
 flows_wants (a ∷ b ∷ []) options e = absurd (true≢false e)
 flows_wants (a ∷ b ∷ c ∷ xs) options e = refl
 
+why_wants : Wants 3 why_by
+why_wants [] options e = refl
+why_wants (a ∷ []) options e = refl
+why_wants (a ∷ b ∷ []) options e = refl
+why_wants (a ∷ b ∷ c ∷ []) options e = absurd (true≢false e)
+why_wants (a ∷ b ∷ c ∷ x ∷ xs) options e = refl
+
 -- if they make up none
-unfit_answer : (n : ℕ) (known words : List Word) (answer : List Word → List (Word × Word) → Answer) → Wants n answer → is_whole n (roles known anything words) ≡ false
+unfit_answer : {X : Type 0} → (n : ℕ) (known words : List Word) (answer : List Word → List (Word × Word) → Result X UsageFault) → Wants n answer → is_whole n (roles known anything words) ≡ false
     → answer_by answer (given_by known None words) ≡ Err fault.Words
-unfit_answer n known words answer wants e =
+unfit_answer {X = X} n known words answer wants e =
     let rs = roles known anything words in
     role_answer known words answer ∙ go (list_all is_fit rs) (length (names_in rs) == n) (all_differ (option_names (options_in rs))) refl refl e
   where
-    or_refused : (t : Bool) (a : Answer) → a ≡ Err fault.Words → cond t a (Err fault.Words) ≡ Err fault.Words
+    or_refused : (t : Bool) (a : Result X UsageFault) → a ≡ Err fault.Words → cond t a (Err fault.Words) ≡ Err fault.Words
     or_refused true a e = e
     or_refused false a e = refl
 
-    never : (t : Bool) (a : Answer) → cond (t && false) a (Err fault.Words) ≡ Err fault.Words
+    never : (t : Bool) (a : Result X UsageFault) → cond (t && false) a (Err fault.Words) ≡ Err fault.Words
     never true a = refl
     never false a = refl
 
@@ -231,11 +240,27 @@ flows_is a b m n (p ∷ q ∷ []) options e em en =
     let name_is : has_text q ≡ (has_text q && true) = sym (and_true (has_text q)) in
     rw (ea, eb, em, en) (λ i. cond ((has_text p && name_is i) && flow_options_are options i) (flows_by (p ∷ q ∷ []) options) (Err fault.Words))
 
+why_is : (a b c n : Option Word) (names : List Word) (options : List (Word × Word)) → a ∷ b ∷ c ∷ [] ≡ map Some names
+    → n ≡ value_given (codes "record") options
+    → why_read a b c n ≡ cond (list_all has_text names && given_texts options why_options) (why_by names options) (Err fault.Words)
+why_is a b c n [] options e en = cc
+why_is a b c n (p ∷ []) options e en = cc
+why_is a b c n (p ∷ q ∷ []) options e en = cc
+why_is a b c n (p ∷ q ∷ r ∷ s ∷ ss) options e en = cc
+why_is a b c n (p ∷ q ∷ r ∷ []) options e en =
+    let ea : a ≡ Some p = cc in
+    let eb : b ≡ Some q = cc in
+    let ec : c ≡ Some r = cc in
+    let name_is : has_text r ≡ (has_text r && true) = sym (and_true (has_text r)) in
+    let number_is : given_has_text (value_given (codes "record") options) ≡ given_texts options why_options
+    = sym (and_true (given_has_text (value_given (codes "record") options))) in
+    rw (ea, eb, ec, en) (λ i. cond ((has_text p && (has_text q && name_is i)) && number_is i) (why_by (p ∷ q ∷ r ∷ []) options) (Err fault.Words))
+
 abbrev value : ArgMatches → Text → Option Word
 value m x = first_value (found_of m) x
 
 -- what is required of the values that are looked up is what is required of the list of them
-texts_are : (n : ℕ) (known words : List Word) (answer : Answer) → is_whole n (roles known anything words) ≡ true
+texts_are : {X : Type 0} → (n : ℕ) (known words : List Word) (answer : Result X UsageFault) → is_whole n (roles known anything words) ≡ true
     → cond (list_all has_text (names_in (roles known anything words)) && given_texts (options_in (roles known anything words)) known) answer (Err fault.Words)
     ≡ cond (texts (given_of (roles known anything words))) answer (Err fault.Words)
 texts_are n known words answer e =
@@ -273,6 +298,13 @@ flows_answered words m h =
     (h.gives_options (codes "workers") refl) (h.gives_options (codes "burst") refl)
     ∙ texts_are 2 flows_options words _ h.whole ∙ sym (whole_answer 2 flows_options words flows_by h.whole)
 
+pub why_answered : (words : List Word) (m : ArgMatches) → Matches why_names why_options words m
+    → why_read (value m (codes "policy")) (value m (codes "capture")) (value m (codes "report")) (value m (codes "record")) ≡ why_of words
+why_answered words m h =
+    why_is _ _ _ _ (names_in (roles why_options anything words)) (options_in (roles why_options anything words)) h.gives_names
+    (h.gives_options (codes "record") refl)
+    ∙ texts_are 3 why_options words _ h.whole ∙ sym (whole_answer 3 why_options words why_by h.whole)
+
 -- if there are no matches
 refused : (n : ℕ) (known words : List Word) (answer : List Word → List (Word × Word) → Answer) (e : WordsFault) → Wants n answer
     → (e ≡ error.OutOfMemory) ⊎ ((e ≡ error.Usage fault.Words) × (is_whole n (roles known anything words) ≡ false))
@@ -292,3 +324,8 @@ demo_refused words e h = refused 2 demo_options words demo_by e demo_wants h
 
 pub flows_refused : (words : List Word) (e : WordsFault) → (e ≡ error.OutOfMemory) ⊎ ((e ≡ error.Usage fault.Words) × (is_whole 2 (roles flows_options anything words) ≡ false)) → ReadsWords (Err e) (flows_of words)
 flows_refused words e h = refused 2 flows_options words flows_by e flows_wants h
+
+pub why_refused : (words : List Word) (e : WordsFault) → (e ≡ error.OutOfMemory) ⊎ ((e ≡ error.Usage fault.Words) × (is_whole 3 (roles why_options anything words) ≡ false)) → ReadsWhy (Err e) (why_of words)
+why_refused words e h =
+    ⊎_elim (λ memory. subst (λ x. ReadsWhy (Err x) (why_of words)) (sym memory) tt)
+    (λ unfit. subst (λ x. ReadsWhy (Err x) (why_of words)) (sym unfit.0) (unfit_answer 3 why_options words why_by why_wants unfit.1)) h

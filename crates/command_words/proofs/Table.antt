@@ -12,7 +12,8 @@ use Rattle.clap.specs.Takes.{is_given}
 use Rattle.clap.specs.declared.builder.action.ArgAction.TheVariants.{Set}
 use Rattle.clap.specs.declared.builder.range.ValueRange.{ValueRange}
 use Rattle.clap.specs.declared.builder.value_parser.ValueParser.TheVariants as vp
-use Rattle.command_words.specs.Apps.{run_names, plan_names, demo_names, flows_names}
+use Rattle.command_words.specs.Apps.{run_names, plan_names, demo_names, flows_names, why_names}
+use Rattle.command_words.specs.WhyWords.{why_options}
 use Rattle.command_words.specs.Given.{contains}
 use Rattle.command_words.specs.Words.{demo_options, flows_options, plan_options, run_options}
 
@@ -84,6 +85,12 @@ demo_ids = (refl, (refl, (refl, tt)))
 
 pub flows_ids : HasIds (table flows_names flows_options) flows_options
 flows_ids = (refl, (refl, tt))
+
+pub why_indexed : Indexed (table why_names why_options) 1 why_names
+why_indexed = (refl, (refl, (refl, (refl, (refl, (refl, refl))))))
+
+pub why_ids : HasIds (table why_names why_options) why_options
+why_ids = (refl, tt)
 
 pub same_text : (a b : Text) → bytes_eq a b ≡ true → a ≡ b
 same_text a b e = (bytes_eq-Decides a b).0 e

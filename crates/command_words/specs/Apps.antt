@@ -5,6 +5,7 @@ use Rattle.clap.specs.Simple.{App, new_rule, new_shape, on_top}
 use Rattle.clap.specs.Walk.{Rule, Text}
 use Rattle.command_words.specs.declared.commands.Argument.{Argument}
 use Rattle.command_words.specs.declared.commands.Argument.TheVariants as argument
+use Rattle.command_words.specs.WhyWords.{why_options}
 use Rattle.command_words.specs.Words.{demo_options, flows_options, plan_options, run_options}
 
 -- a name that is required
@@ -47,6 +48,9 @@ demo_names = codes "seed" ∷ codes "count" ∷ []
 abbrev pub flows_names : List Text
 flows_names = codes "capture" ∷ codes "out" ∷ []
 
+abbrev pub why_names : List Text
+why_names = codes "policy" ∷ codes "capture" ∷ codes "report" ∷ []
+
 abbrev pub run_app : App
 run_app = app (codes "run") run_names run_options
 
@@ -58,3 +62,6 @@ demo_app = app (codes "demo") demo_names demo_options
 
 abbrev pub flows_app : App
 flows_app = app (codes "flows") flows_names flows_options
+
+abbrev pub why_app : App
+why_app = app (codes "why") why_names why_options

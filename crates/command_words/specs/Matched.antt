@@ -1,12 +1,14 @@
 -- For proofs: the result of `clap` for the words after a command, and the answer by it.
 use Rattle.std.specs.Prelude.{◌≡◌, ◌≢◌, ◌&&◌, Bool, true, false, List, [], ◌∷◌, map, length, Option, Some}
-use Rattle.std.specs.Prelude.{None, Err, if◌then◌else◌}
+use Rattle.std.specs.Prelude.{None, Result, Err, if◌then◌else◌}
 use Rattle.std.specs.List.{list_all}
 use Rattle.clap.specs.declared.parser.matches.ArgMatches.{ArgMatches}
 use Rattle.clap.specs.Words.{App, HasMatchesOf, Text, fault_of, first_value, found_of, is_simple_and_free}
+use Rattle.command_words.specs.declared.usage.UsageFault.{UsageFault}
 use Rattle.command_words.specs.declared.usage.UsageFault.TheVariants as fault
 use Rattle.command_words.specs.Roles.{Role, anything, is_whole, names_in, options_in, roles}
 use Rattle.command_words.specs.Given.{Word, contains, has_text, value_given}
+use Rattle.command_words.specs.WhyWords.{WhyAsked, WhyFiles, why_with}
 use Rattle.command_words.specs.Words.{Answer, Names, demo_with, flows_with, plan_with, run_with}
 
 -- the words after this command have no fault, and these are their matches
@@ -87,3 +89,9 @@ flows_read (Some capture) (Some out) workers burst =
     if (has_text capture && has_text out) && flow_options_have_text workers burst
     then flows_with (record { capture = capture; out = out }) burst workers else Err fault.Words
 flows_read capture out workers burst = Err fault.Words
+
+abbrev pub why_read : Option Word → Option Word → Option Word → Option Word → Result WhyAsked UsageFault
+why_read (Some policy) (Some capture) (Some report) number =
+    if (has_text policy && (has_text capture && has_text report)) && given_has_text number
+    then why_with (record { policy = policy; capture = capture; report = report }) number else Err fault.Words
+why_read policy capture report number = Err fault.Words

@@ -8,10 +8,12 @@ use Rattle.command_words.specs.declared.requests.FlowNames.{FlowNames}
 use Rattle.command_words.specs.declared.requests.FlowOptions.{FlowOptions}
 use Rattle.command_words.specs.declared.requests.PlanNames.{PlanNames}
 use Rattle.command_words.specs.declared.requests.RunOptions.{RunOptions}
+use Rattle.command_words.specs.declared.requests.WhyRequest.{WhyRequest}
 use Rattle.command_words.specs.declared.usage.UsageFault.{UsageFault}
 use Rattle.command_words.specs.declared.usage.WordsFault.{WordsFault}
 use Rattle.command_words.specs.declared.usage.WordsFault.TheVariants.{Usage, OutOfMemory}
 use Rattle.command_words.specs.Given.{Word}
+use Rattle.command_words.specs.WhyWords.{WhyAsked, WhyFiles}
 use Rattle.command_words.specs.Words.{Answer, Command, Demo, FlowFiles, Flows, Names, Plan, PlanFiles, Run}
 
 abbrev pub word_in : Option (Bor Word) → Option Word
@@ -61,3 +63,21 @@ HasRanges (asked.Run names options) = IsInRange options
 HasRanges (asked.Plan names) = ⊤
 HasRanges (asked.Demo input options) = (1 ≤ input.count) × (input.count ≤ 1000000) × IsInRange options
 HasRanges (asked.Flows names options) = IsFlowRange options
+
+-- ---- the words behind `why`
+
+abbrev pub why_files_seen : WhyRequest → WhyFiles
+why_files_seen r = record { policy = r.policy.now; capture = r.capture.now; report = r.report.now }
+
+abbrev pub asked_seen : WhyRequest → WhyAsked
+asked_seen r = record { files = why_files_seen r; record_number = r.«record» }
+
+abbrev pub why_seen : Result WhyRequest UsageFault → Result WhyAsked UsageFault
+why_seen (Ok request) = Ok (asked_seen request)
+why_seen (Err fault) = Err fault
+
+-- the words were read to this, or it ran out of memory
+abbrev pub ReadsWhy : Result WhyRequest WordsFault → Result WhyAsked UsageFault → Type 0
+ReadsWhy (Ok request) due = due ≡ Ok (asked_seen request)
+ReadsWhy (Err (Usage fault)) due = due ≡ Err fault
+ReadsWhy (Err OutOfMemory) due = ⊤

@@ -138,7 +138,7 @@ flows_by (capture ∷ out ∷ []) options =
 flows_by names options = Err Words
 
 -- the answer to the parts of the words after a command
-abbrev pub answer_by : (List Word → List (Word × Word) → Answer) → Option Given → Answer
+abbrev pub answer_by : {X : Type 0} → (List Word → List (Word × Word) → Result X UsageFault) → Option Given → Result X UsageFault
 answer_by answer None = Err Words
 answer_by answer (Some given) = if is_sound given then answer given.names given.options else Err Words
 

@@ -1,15 +1,16 @@
 //! Makes a command of matched words.
-ghost use Rattle.std.specs.Prelude.{◌≡◌, IfOk, codes, option_map};
+ghost use Rattle.std.specs.Prelude.{◌≡◌, ◌≤◌, ◌&&◌, [], ◌∷◌, IfOk, IfSome, codes, option_map};
 ghost use Rattle.std.specs.List.{list_all};
 ghost use Rattle.clap.specs.Words.{first_value, found_of};
-ghost use Rattle.command_words.specs.Matched.{demo_read, flow_options_have_text as flow_options_spell, flows_read, four_names, given_has_text as given_spells, names_of, options_have_text as options_spell, plan_read, run_options_have_text as run_options_spell, run_read};
-ghost use Rattle.command_words.specs.Named.{HasRanges, answer_seen, files_seen, names_seen, plan_seen, word_in};
+ghost use Rattle.command_words.specs.Matched.{demo_read, flow_options_have_text as flow_options_spell, flows_read, four_names, given_has_text as given_spells, names_of, options_have_text as options_spell, plan_read, run_options_have_text as run_options_spell, run_read, why_read};
+ghost use Rattle.command_words.specs.Named.{HasRanges, answer_seen, files_seen, names_seen, plan_seen, why_files_seen, why_seen, word_in};
 ghost use Rattle.command_words.specs.Given.{all_differ, contains, has_text as spells};
+ghost use Rattle.command_words.specs.WhyWords.{why_with};
 ghost use Rattle.command_words.specs.Words.{demo_with, flows_with, plan_with, run_with, with_graph};
 
-use crate::numbers::{burst, count, mergers, seed, workers};
+use crate::numbers::{burst, count, mergers, record, seed, workers};
 use crate::requests::{
-    Command, DemoInput, FileNames, FlowNames, FlowOptions, PlanNames, RunOptions,
+    Command, DemoInput, FileNames, FlowNames, FlowOptions, PlanNames, RunOptions, WhyRequest,
 };
 use crate::usage::UsageFault;
 use crate::ways::merge_way;
@@ -273,6 +274,64 @@ pub fn flows_answer<'a>(matches: &ArgMatches<'a>) -> Result<Command<'a>, UsageFa
     let burst = matches.get_str("burst");
     if has_text(capture) && has_text(out) && flow_options_have_text(workers, burst) {
         flows_from(FlowNames { capture, out }, workers, burst)
+    } else {
+        Err(UsageFault::Words)
+    }
+}
+
+fn three_have_text(first: &str, second: &str, third: &str) -> bool
+    ensures { result ≡ (spells first.now && (spells second.now && spells third.now)) }
+{
+    has_text(first) && has_text(second) && has_text(third)
+}
+
+fn three_are_distinct(first: &str, second: &str, third: &str) -> bool
+    ensures { result ≡ all_differ (first.now ∷ second.now ∷ third.now ∷ []) }
+{
+    second != first && third != first && third != second
+}
+
+// `request` has no number yet.
+fn why_from<'a>(
+    request: WhyRequest<'a>,
+    record_word: Option<&str>,
+) -> Result<WhyRequest<'a>, UsageFault>
+    ensures answer { why_seen result ≡ why_with (why_files_seen request.entry) (word_in record_word.entry) }
+    ensures range { IfOk result (λ r. IfSome r.«record» (λ n. 1 ≤ n)) }
+{
+    let record = record(record_word)?;
+    if three_are_distinct(request.policy, request.capture, request.report) {
+        Ok(WhyRequest { record, ..request })
+    } else {
+        Err(UsageFault::SameName)
+    }
+}
+
+/// The words behind `why`, from words that `clap` matched.
+pub fn why_answer<'a>(matches: &ArgMatches<'a>) -> Result<WhyRequest<'a>, UsageFault>
+    ensures answer { why_seen result ≡ why_read (first_value (found_of matches.now) (codes "policy"))
+        (first_value (found_of matches.now) (codes "capture")) (first_value (found_of matches.now) (codes "report"))
+        (first_value (found_of matches.now) (codes "record")) }
+    ensures range { IfOk result (λ r. IfSome r.«record» (λ n. 1 ≤ n)) }
+{
+    let (Some(policy), Some(capture), Some(report)) = (
+        matches.get_str("policy"),
+        matches.get_str("capture"),
+        matches.get_str("report"),
+    ) else {
+        return Err(UsageFault::Words);
+    };
+    let number = matches.get_str("record");
+    if three_have_text(policy, capture, report) && given_has_text(number) {
+        why_from(
+            WhyRequest {
+                policy,
+                capture,
+                report,
+                record: None,
+            },
+            number,
+        )
     } else {
         Err(UsageFault::Words)
     }

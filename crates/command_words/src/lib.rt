@@ -8,6 +8,10 @@
 //! - `demo SEED COUNT [--mergers N] [--burst N] [--merge WAY]`
 //! - `flows CAPTURE OUT [--workers N] [--burst N]`
 //!
+//! [`read_why`] reads the words behind `why`, as `specs/WhyWords.antt` defines it:
+//!
+//! - `why POLICY CAPTURE REPORT [--record N]`
+//!
 //! An option may come before, between or after the names, as `--burst 7` or `--burst=7`, and at most once. After the
 //! word `--` each word is a name, so a name that begins with a dash can be given there. WAY is `inbox` or `board`.
 //! First options and names are separated, then the numbers are read, then the way, and last the names of files are
@@ -30,7 +34,7 @@ mod ways;
 mod words;
 
 pub use requests::{
-    Command, DemoInput, FileNames, FlowNames, FlowOptions, PlanNames, RunOptions, Way,
+    Command, DemoInput, FileNames, FlowNames, FlowOptions, PlanNames, RunOptions, Way, WhyRequest,
 };
 pub use usage::{Option4, UsageFault, WordsFault};
-pub use words::read_command;
+pub use words::{read_command, read_why};

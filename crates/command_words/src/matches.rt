@@ -1,8 +1,9 @@
 //! The words after each command, matched by `clap`.
 ghost use Rattle.std.specs.Prelude.{◌≡◌, ◌≢◌, ◌⊎◌, [], MatchResult, map, string_bytes};
 ghost use Rattle.clap.specs.Words.{kind_of};
-ghost use Rattle.command_words.specs.Apps.{app, demo_names, flows_names, plan_names, rule_for, run_names, with_rules};
+ghost use Rattle.command_words.specs.Apps.{app, demo_names, flows_names, plan_names, rule_for, run_names, why_names, with_rules};
 ghost use Rattle.command_words.specs.Matched.{IsFaulty, IsMatched, IsUnfit, Matches};
+ghost use Rattle.command_words.specs.WhyWords.{why_options};
 ghost use Rattle.command_words.specs.Words.{demo_options, flows_options, plan_options, run_options};
 
 use crate::commands::{Argument, command};
@@ -112,6 +113,25 @@ pub fn flows_matches<'a>(alloc: Global, words: &'a [String]) -> Result<ArgMatche
             Argument::Name("out"),
             Argument::Option("workers"),
             Argument::Option("burst"),
+        ],
+        words,
+    )
+}
+
+/// The words of `why POLICY CAPTURE REPORT` with its option.
+pub fn why_matches<'a>(alloc: Global, words: &'a [String]) -> Result<ArgMatches<'a>, WordsFault>
+    ensures { MatchResult result (Matches why_names why_options (map string_bytes words.entry.now))
+        (λ e. (e ≡ WordsFault.OutOfMemory) ⊎ ((e ≡ WordsFault.Usage UsageFault.Words)
+        × IsUnfit why_names why_options (map string_bytes words.entry.now))) }
+{
+    matches_of(
+        alloc,
+        "why",
+        &[
+            Argument::Name("policy"),
+            Argument::Name("capture"),
+            Argument::Name("report"),
+            Argument::Option("record"),
         ],
         words,
     )

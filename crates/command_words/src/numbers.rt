@@ -1,9 +1,10 @@
 //! The numbers among the words, each read from its word.
-ghost use Rattle.std.specs.Prelude.{◌≡◌, ◌≤◌, IfOk};
+ghost use Rattle.std.specs.Prelude.{◌≡◌, ◌≤◌, IfOk, IfSome};
 ghost use Rattle.std.specs.Char.{is_ascii_digit};
 ghost use Rattle.std.specs.List.{list_all};
 ghost use Rattle.command_words.specs.Named.{word_in};
 ghost use Rattle.command_words.specs.Words.{burst_of, count_of, is_numeral as spells, mergers_of, number_of, seed_of, workers_of};
+ghost use Rattle.command_words.specs.WhyWords.{record_of};
 
 use crate::usage::{Option4, UsageFault};
 
@@ -68,6 +69,20 @@ pub fn workers(word: Option<&str>) -> Result<u32, UsageFault>
     match word {
         Some(word) => Ok(number(Option4::Workers, word, 1, 16)? as u32),
         None => Ok(2),
+    }
+}
+
+/// The record whose trace is asked for, if there is one.
+pub fn record(word: Option<&str>) -> Result<Option<u32>, UsageFault>
+    ensures value { result ≡ record_of (word_in word.entry) }
+    ensures range { IfOk result (λ r. IfSome r (λ n. 1 ≤ n)) }
+{
+    match word {
+        Some(word) => {
+            let number = number(Option4::Record, word, 1, 4_294_967_295)? as u32;
+            Ok(Some(number))
+        }
+        None => Ok(None),
     }
 }
 

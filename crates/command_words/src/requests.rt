@@ -65,6 +65,16 @@ pub struct FlowOptions {
     pub burst: u32,
 }
 
+/// The names and the option of `why POLICY CAPTURE REPORT [--record N]`.
+#[derive(Clone, Copy)]
+pub struct WhyRequest<'a> {
+    pub policy: &'a str,
+    pub capture: &'a str,
+    pub report: &'a str,
+    /// `--record`: the record whose trace is asked for, 1 to 4,294,967,295.
+    pub record: Option<u32>,
+}
+
 /// A command with its names and options.
 #[derive(Clone, Copy)]
 pub enum Command<'a> {

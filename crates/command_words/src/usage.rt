@@ -13,6 +13,8 @@ pub enum Option4 {
     Burst,
     /// The value of `--workers`.
     Workers,
+    /// The value of `--record`.
+    Record,
     /// The first name of `demo`.
     Seed,
     /// The second name of `demo`.
@@ -33,7 +35,7 @@ pub enum UsageFault {
     Number(Option4),
     /// The value of `--merge` is neither `inbox` nor `board`.
     Merge,
-    /// Two of the names of files of `run`, `plan` or `flows` are equal.
+    /// Two of the names of files of `run`, `plan`, `flows` or `why` are equal.
     SameName,
 }
 

@@ -1,11 +1,12 @@
 //! The words of the command line.
-ghost use Rattle.std.specs.Prelude.{IfOk, map, string_bytes};
-ghost use Rattle.command_words.specs.Named.{HasRanges, ReadsWords, answer_seen};
+ghost use Rattle.std.specs.Prelude.{◌≤◌, IfOk, IfSome, map, string_bytes};
+ghost use Rattle.command_words.specs.Named.{HasRanges, ReadsWhy, ReadsWords, answer_seen, why_seen};
+ghost use Rattle.command_words.specs.WhyWords.{why_of};
 ghost use Rattle.command_words.specs.Words.{command_of, demo_of, flows_of, plan_of, run_of};
 
-use crate::answers::{demo_answer, flows_answer, plan_answer, run_answer};
-use crate::matches::{demo_matches, flows_matches, plan_matches, run_matches};
-use crate::requests::Command;
+use crate::answers::{demo_answer, flows_answer, plan_answer, run_answer, why_answer};
+use crate::matches::{demo_matches, flows_matches, plan_matches, run_matches, why_matches};
+use crate::requests::{Command, WhyRequest};
 use crate::usage::{UsageFault, WordsFault};
 use std::alloc::Global;
 
@@ -68,4 +69,25 @@ fn read_flows<'a>(alloc: Global, words: &'a [String]) -> Result<Command<'a>, Wor
 {
     let matches = flows_matches(alloc, words)?;
     settled(flows_answer(&matches))
+}
+
+/// Reads the words behind `why`, or returns why they are refused. Memory may run out whatever the words are.
+pub fn read_why<'a>(alloc: Global, words: &'a [String]) -> Result<WhyRequest<'a>, WordsFault>
+    ensures reads { ReadsWhy result (why_of (map string_bytes words.entry.now)) }
+    // The number of the record, if it is given, is at least 1.
+    ensures ranges { IfOk result (λ r. IfSome r.«record» (λ n. 1 ≤ n)) }
+{
+    let matches = why_matches(alloc, words)?;
+    settled_why(why_answer(&matches))
+}
+
+// The names and the option of words that were matched, or their fault.
+fn settled_why<'a>(answer: Result<WhyRequest<'a>, UsageFault>) -> Result<WhyRequest<'a>, WordsFault>
+    ensures reads { ReadsWhy result (why_seen answer.entry) }
+    ensures ranges { IfOk answer.entry (λ r. IfSome r.«record» (λ n. 1 ≤ n)) → IfOk result (λ r. IfSome r.«record» (λ n. 1 ≤ n)) }
+{
+    match answer {
+        Ok(request) => Ok(request),
+        Err(fault) => Err(WordsFault::Usage(fault)),
+    }
 }

@@ -34,7 +34,7 @@ all_last [] = refl
 all_last (f ∷ []) = refl
 all_last (f ∷ g ∷ functions) = ap (with_first f) (all_last (g ∷ functions))
 
-pub function_joins : (old new : Cutting) (name : List ℕ) (function : NetFunction) → new.parts.items ≡ old.parts.items → new.waiting.items ≡ old.waiting.items ++ record { name = name; function = function } ∷ [] →
+function_joins : (old new : Cutting) (name : List ℕ) (function : NetFunction) → new.parts.items ≡ old.parts.items → new.waiting.items ≡ old.waiting.items ++ record { name = name; function = function } ∷ [] →
     GoesOn old new (with_made name (made.Function function))
 function_joins old new name function pieces waits =
     let f : NamedFunction = record { name = name; function = function } in
@@ -67,3 +67,13 @@ entry_joins (Err e) old name one tunnel is has = tt
 pub exit_joins : {E : Type 0} (r : Result Cutting E) (old : Cutting) (name : List ℕ) (one : Made) (tunnel : Decap) → one ≡ made.Decap tunnel → HasTunnel old (part_of (parts.Decap tunnel)) r → IfOk r (λ new. GoesOn old new (with_made name one))
 exit_joins (Ok new) old name one tunnel is has = subst (λ m. GoesOn old new (with_made name m)) (sym is) (tunnel_joins old new (decapsulated tunnel) has.0 has.1)
 exit_joins (Err e) old name one tunnel is has = tt
+
+-- so is a function, if there is memory
+abbrev pub HasFunction : {E : Type 0} → Cutting → NamedFunction → Result Cutting E → Type 0
+HasFunction old f r = IfOk r (λ new. new.parts.items ≡ old.parts.items) × IfOk r (λ new. new.waiting.items ≡ old.waiting.items ++ f ∷ [])
+
+pub row_joins : {E : Type 0} (r : Result Cutting E) (old : Cutting) (name : List ℕ) (one : Made) (function : NetFunction) → one ≡ made.Function function →
+    HasFunction old (record { name = name; function = function }) r → IfOk r (λ new. GoesOn old new (with_made name one))
+row_joins (Ok new) old name one function is has =
+    subst (λ m. GoesOn old new (with_made name m)) (sym is) (function_joins old new name function has.0 has.1)
+row_joins (Err e) old name one function is has = tt

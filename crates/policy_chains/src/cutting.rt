@@ -32,7 +32,6 @@ impl Cutting {
 
     /// The chain with one more function, which has this name. A function that rewrites packets whole is a part by
     /// itself.
-    #[tactic(auto, using(crate::proofs::Joining::function_joins))]
     pub fn with(self, alloc: Global, name: Name, made: Made) -> Result<Cutting, AllocError>
         ensures { IfOk result (λ cutting. GoesOn self cutting (with_made name made)) }
     {
