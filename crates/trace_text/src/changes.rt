@@ -103,8 +103,8 @@ fn push_change(
     old: Option<&[u8]>,
     new: Option<&[u8]>,
 ) -> Result<(), AllocError>
-    requires old { IfSome old.entry (λ bytes. IsLengthOf field (length bytes.now)) }
-    requires new { IfSome new.entry (λ bytes. IsLengthOf field (length bytes.now)) }
+    requires old { IfSome old (λ bytes. IsLengthOf field (length bytes.now)) }
+    requires new { IfSome new (λ bytes. IsLengthOf field (length bytes.now)) }
     ensures { OnOk result (text.new.items ≡ text.old.items ++ change_line field (option_copied old.entry) (option_copied new.entry)) }
 {
     if is_same(old, new) {
@@ -131,8 +131,8 @@ fn push_field_line(
     old: Option<&[u8]>,
     new: Option<&[u8]>,
 ) -> Result<(), AllocError>
-    requires old { IfSome old.entry (λ bytes. IsLengthOf field (length bytes.now)) }
-    requires new { IfSome new.entry (λ bytes. IsLengthOf field (length bytes.now)) }
+    requires old { IfSome old (λ bytes. IsLengthOf field (length bytes.now)) }
+    requires new { IfSome new (λ bytes. IsLengthOf field (length bytes.now)) }
     ensures { OnOk result (text.new.items ≡ text.old.items ++ field_line field (option_copied old.entry) (option_copied new.entry)) }
 {
     match field {
@@ -149,8 +149,8 @@ fn push_value_line(
     old: Option<&[u8]>,
     new: Option<&[u8]>,
 ) -> Result<(), AllocError>
-    requires old { IfSome old.entry (λ bytes. IsLengthOf field (length bytes.now)) }
-    requires new { IfSome new.entry (λ bytes. IsLengthOf field (length bytes.now)) }
+    requires old { IfSome old (λ bytes. IsLengthOf field (length bytes.now)) }
+    requires new { IfSome new (λ bytes. IsLengthOf field (length bytes.now)) }
     ensures { OnOk result (text.new.items ≡ text.old.items ++ value_line field (option_copied old.entry) (option_copied new.entry)) }
 {
     push_pieces(
