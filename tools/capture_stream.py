@@ -42,6 +42,10 @@ class Stream:
         self.bytes += len(piece)
         return not self.is_whole
 
+    def tell(self):
+        """The number of bytes up to the end of the last item."""
+        return self.bytes - len(self.data) + self.place
+
     def items(self, growth):
         while len(self.data) < 24 and self.fill():
             pass
@@ -87,9 +91,9 @@ class Stream:
                 if end > len(data):
                     self.fault = f'cut record {number}'
                     return
+                self.place = end
                 yield seconds * 1_000_000_000 + fraction * unit, data[place + 16 : end], data[place:end], respell
                 place = end
-            self.place = place
 
     def blocks(self, growth):
         interfaces, order, number, packets = [], '<', 0, 0

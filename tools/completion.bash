@@ -5,7 +5,7 @@ _nfp() {
     local word=$2 options=' --burst --graph --merge --mergers --sync ' due files=yes
     COMPREPLY=()
     if [[ $COMP_CWORD -eq 1 ]]; then
-        local first='plan run flows demo help explain report-to-csv report-to-html plan-to-dot plan-to-graph chains-apart send-flows'
+        local first='plan run why flows demo help explain report-to-csv report-to-html plan-to-dot plan-to-graph chains-apart send-flows'
         [[ $word != -* ]] || first='--help --version'
         COMPREPLY=($(compgen -W "$first" -- "$word"))
         return
@@ -13,6 +13,7 @@ _nfp() {
     case ${COMP_WORDS[1]} in
         plan) due=1 options=' --graph ' ;;
         run) due=4 ;;
+        why) due=3 options=' --record ' ;;
         flows) due=2 options=' --burst --sync --workers ' ;;
         demo) due=2 files= options=' --burst --merge --mergers ' ;;
         explain | report-to-csv | report-to-html | plan-to-dot | plan-to-graph | chains-apart | send-flows)

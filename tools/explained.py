@@ -1,23 +1,53 @@
-"""What each function of a policy does with the packets of a capture and why, in Python's standard library alone, and where the files of a run
-differ from that. Used by tools/explain. The rules are those of policy_rules.py, packet_rules.py and capture_rules.py, which share nothing with the
-program. The capture and the files of the run are read a piece at a time.
+"""What each function of a policy did with the packets of a capture and why, as `nfp why` reports it, and where the files of a run differ from what
+`nfp run` writes. Used by `explain`.
+
+The program decides everything that is said of a packet: this reads its lines, and reads the capture for addresses, ports and times. The capture
+and the files of the run are read a piece at a time.
 """
 
 import array
 import collections
-import datetime
+import concurrent.futures
+import contextlib
 import ipaddress
 import re
 import typing
 
 import capture_stream
-import packet_memo
-import packet_rules
-import policy_rules
+import frame_fields
+import policy_lines
+import program_calls
+from program_calls import PIPE, Call
 from report_rows import PROTOCOLS
 
 STEP = 1000  # packets between two reports of the progress
 CHUNK = 1 << 20  # bytes of a file that are compared at once
+
+
+class Changed(Exception):
+    """A file was changed while it was read."""
+
+
+class Cause(typing.NamedTuple):
+    """Why a function did what it did with a packet."""
+
+    reason: str
+    lines: tuple = ()  # of the policy, those that decided
+
+
+# The reasons. The first three are followed by lines, but for a default that no line states.
+RULE, DEFAULT, PATTERN = 'rule', 'default', 'pattern'
+NO_PORT, NOBODY, NO_TOKENS, NO_HOPS = 'no port left', 'a port that nobody has', 'no tokens', 'time to live'
+NOTHING = Cause('nothing')
+
+# Deciding lines that are named by a reason, by the kind of the function and the words with which the line begins.
+NAMED = {
+    ('firewall', 'fn'): Cause(DEFAULT),
+    ('nat', 'fn'): Cause(NOBODY),
+    ('nat', 'set ports'): Cause(NO_PORT),
+    ('limiter', 'set rate'): Cause(NO_TOKENS),
+    ('hop', 'fn'): Cause(NO_HOPS),
+}
 
 
 class Rule(typing.NamedTuple):
@@ -31,47 +61,42 @@ class Rule(typing.NamedTuple):
 class Function:
     """A function, and how many packets it saw, dropped and changed."""
 
-    def __init__(self, chain, declared):
-        self.chain, self.declared = chain, declared
-        self.name, self.kind, self.line = declared.name, declared.kind, declared.line
+    def __init__(self, declared):
+        self.chain, self.name, self.kind, self.line = declared.chain, declared.name, declared.kind, declared.declared.number
+        self.texts = {line.number: line.text for line in declared.settings}
+        self.leads = {line.number: lead_of(line.words) for line in declared.settings} | {self.line: 'fn'}
         self.seen = self.dropped = self.changed = 0
-        self.causes = collections.Counter()
-        self.texts = {line: ' '.join(words) for line, words in declared.settings}
-        self.drop_words = f'{chain} {self.name}\n'.encode()  # with which each line of a report ends that is on a packet dropped here
+        self.hits = {}  # by the lines that can decide
 
-    def count(self, cause, packets, is_changed, is_dropped=False):
-        self.seen += packets
-        self.causes[cause] += packets
-        self.changed += packets if is_changed else 0
-        self.dropped += packets if is_dropped else 0
-
-    def note(self, cause, is_changed):
-        """Of a packet that is counted elsewhere."""
-        self.causes[cause] += 1
-        self.changed += is_changed
+    def cause(self, lines):
+        """What these deciding lines are called."""
+        if not lines:
+            return NOTHING
+        lead = self.leads[lines[0]]
+        if (self.kind, lead) in NAMED:
+            return NAMED[self.kind, lead]
+        if lead not in ('rule', 'set default'):
+            return NOTHING
+        return Cause(DEFAULT if lead != 'rule' else PATTERN if self.kind == 'signature' else RULE, tuple(lines))
 
     def rules(self):
-        """In the order of the text. Several patterns of a redactor may decide on a packet."""
-        packets = collections.Counter()
-        for cause, count in self.causes.items():
-            for line in cause.lines:
-                packets[line] += count
-        deciding = [(line, words) for line, words in self.declared.settings if words[0] == 'rule' or words[1] == 'default']
-        for line, words in deciding:
-            yield Rule(line, ' '.join(words), packets[line])
-        if self.kind == 'firewall' and 'set' not in [words[0] for _, words in deciding]:
-            yield Rule(None, 'allow, by the default that no line states', self.causes[packet_rules.Cause(packet_rules.DEFAULT)])
+        """In the order of the text."""
+        for line, text in self.texts.items():
+            if self.leads[line] in ('rule', 'set default'):
+                yield Rule(line, text, self.hits.get(line, 0))
+        if self.kind == 'firewall' and self.line in self.hits:
+            yield Rule(None, 'allow, by the default that no line states', self.hits[self.line])
+
+
+def lead_of(words):
+    return 'rule' if words[0] == 'rule' else ' '.join(words[:2])
 
 
 class Drop(typing.NamedTuple):
     record: int
     function: Function
-    cause: packet_rules.Cause
+    cause: Cause
     source: str  # as it was read
-
-    @property
-    def line(self):
-        return self.cause.lines[0] if self.cause.lines else None
 
 
 class Drops:
@@ -89,6 +114,9 @@ class Drops:
         return (Drop(record, *whys[place]) for record, place in zip(self.records, self.places))
 
 
+# The way of a packet.
+
+
 class Change(typing.NamedTuple):
     field: str
     before: typing.Optional[bytes]  # None where the packet had no such field, as after an end of a tunnel
@@ -99,7 +127,7 @@ class Step(typing.NamedTuple):
     """What a function did with a packet."""
 
     function: Function
-    cause: packet_rules.Cause
+    cause: Cause
     passes: bool
     changes: list
 
@@ -112,108 +140,51 @@ class Way(typing.NamedTuple):
     frame: bytes  # as it was read
     fields: dict  # of it
     steps: list
-    fate: packet_rules.Fate
+    chain: typing.Optional[str]  # the chain that takes the packet, or None
+    drop: typing.Optional[str]  # the function that drops it, or None
+    left: typing.Optional[bytes]  # the frame as it goes out, or None
 
 
-# The fields in their order, and the protocol among them, which rules look at too: that of the header that is outermost.
-SHOWN = [*policy_rules.FIELDS[:5], 'proto', *policy_rules.FIELDS[5:]]
+def value_of(field, word):
+    """A value of a field as `nfp why` prints it."""
+    if field == 'tag':
+        return b'' if word == 'none' else bytes.fromhex(word)
+    if word == 'none':
+        return None
+    if field in ('src', 'dst'):
+        return ipaddress.ip_address(word).packed
+    if field in ('link-dst', 'link-src'):
+        return bytes.fromhex(word.replace(':', ''))
+    return int(word).to_bytes(2, 'big')
 
 
-def fields_of(packet):
-    values = {field: packet.get(field) for field in policy_rules.FIELDS if packet.has(field)}
-    values.update({} if packet.proto is None else {'proto': bytes([packet.proto])})
-    return {field: values[field] for field in SHOWN if field in values}
+def changes_between(before, after):
+    before, after = frame_fields.fields_of(before), frame_fields.fields_of(after)
+    return [Change(field, before.get(field), after.get(field)) for field in frame_fields.SHOWN if before.get(field) != after.get(field)]
+
+
+class Traced(typing.NamedTuple):
+    """A line `function` of a trace, and those below it."""
+
+    name: str
+    verdict: str  # passed, changed or dropped
+    lines: list
+    values: list  # the words of each line below it
+
+
+def traced(lines):
+    """The functions of a trace."""
+    functions = []
+    for line in lines:
+        words = line.split()
+        if line.startswith('function '):
+            functions.append(Traced(words[1], words[3], [int(word) for word in words[5::2]], []))
+        elif line.startswith('  '):
+            functions[-1].values.append(words)
+    return functions
 
 
 # Packets that are looked for.
-
-
-class Wanted(typing.NamedTuple):
-    """What a packet that is looked for has, as it was read. None is not asked for."""
-
-    number: typing.Optional[int] = None
-    networks: tuple = ()  # source or destination in each
-    ports: tuple = ()  # source or destination port, each
-    times: typing.Optional[tuple] = None  # the first nanosecond and the first behind, and the nanoseconds after which they come again, or None
-
-    @property
-    def is_search(self):
-        return bool(self.networks or self.ports or self.times)
-
-    def fits(self, number, time, frame, known):
-        """Whether a packet is wanted. What is `known` of the keys of frames is kept between two calls."""
-        if self.number is not None and number != self.number:
-            return False
-        if self.times:
-            low, high, again = self.times
-            if not low <= (time % again if again else time) < high:
-                return False
-        return not self.networks and not self.ports or self.has_ends(frame, known)
-
-    def has_ends(self, frame, known):
-        """Whether it has the addresses and ports, which frames with one key have alike."""
-        key, _, _ = packet_memo.key_of(frame)
-        if key is None:
-            return self.looks(frame)
-        if key not in known:
-            if len(known) == packet_memo.MOST_HEADS:
-                known.clear()
-            known[key] = self.looks(frame)
-        return known[key]
-
-    def looks(self, frame):
-        packet = packet_rules.Packet(frame, 0)
-        addresses, ports = ([packet.got(field) for field in fields if packet.has(field)] for fields in (('src', 'dst'), ('sport', 'dport')))
-        return all(any(is_within(address, network) for address in addresses) for network in self.networks) and all(port in ports for port in self.ports)
-
-
-def is_within(address, network):
-    whole = network.network_address.packed
-    if len(address) != len(whole):
-        return False
-    shift = 8 * len(whole) - network.prefixlen
-    return int.from_bytes(address, 'big') >> shift == int(network.network_address) >> shift
-
-
-def network_of(word):
-    """An address or a prefix."""
-    return ipaddress.ip_network(word, strict=False)
-
-
-SECOND, DAY = 10**9, 86_400 * 10**9
-MOMENT = re.compile(r'(?:(\d{4})-(\d\d)-(\d\d)[T ])?(\d\d):(\d\d):(\d\d)(\.\d{1,9})?|(\d{1,10})(\.\d{1,9})?')
-
-
-def moment_of(word):
-    """The first nanosecond of a moment and the first behind it, and whether it is a time of day."""
-    found = MOMENT.fullmatch(word)
-    if not found:
-        raise ValueError(word)
-    year, month, day, hours, minutes, seconds, fraction, epoch, epoch_fraction = found.groups()
-    if epoch is not None:
-        whole, part = int(epoch), epoch_fraction
-    else:
-        whole, part = int(hours) * 3600 + int(minutes) * 60 + int(seconds), fraction
-        if int(hours) > 23 or int(minutes) > 59 or int(seconds) > 59:
-            raise ValueError(word)
-        if year is not None:
-            whole += (datetime.date(int(year), int(month), int(day)) - datetime.date(1970, 1, 1)).days * 86_400
-    digits = part[1:] if part else ''
-    low = whole * SECOND + int(digits.ljust(9, '0'))
-    return low, low + 10 ** (9 - len(digits)), epoch is None and year is None
-
-
-def times_of(word):
-    """What `Wanted` has of a moment, or of two with .. between them."""
-    first, gap, last = word.partition('..')
-    low, high, is_of_day = moment_of(first)
-    if gap:
-        _, high, ends_of_day = moment_of(last)
-        if ends_of_day != is_of_day:
-            raise ValueError(word)
-    if high <= low:
-        raise ValueError(word)
-    return low, high, DAY if is_of_day else None
 
 
 class Found(typing.NamedTuple):
@@ -228,6 +199,13 @@ class Found(typing.NamedTuple):
     destination_port: typing.Optional[int]
     chain: typing.Optional[str]
     drop: typing.Optional[str]  # the function that dropped it
+
+
+def found_of(number, time, fields, chain, drop):
+    told = {field: frame_fields.told(fields[field]) if field in fields else None for field in ('src', 'dst')}
+    ports = {field: frame_fields.number(fields[field]) if field in fields else None for field in ('sport', 'dport')}
+    proto = PROTOCOLS.get(fields['proto'][0], str(fields['proto'][0])) if 'proto' in fields else None
+    return Found(number, time, proto, told['src'], ports['sport'], told['dst'], ports['dport'], chain, drop)
 
 
 # Files of a run.
@@ -256,173 +234,254 @@ def first_difference(one, other):
 DROP = re.compile(rb'drop (\d+)')
 
 
-class Held:
-    """A file that is compared with what is due while that is worked out."""
+def dropped_at(due, came, at):
+    """The record of a line of a report in which there is a difference. The drop of the lesser record is the one that only one of both has."""
+    begin = due.rfind(b'\n', 0, at) + 1
+    told = [int(found[1]) for text in (due, came) if (found := DROP.match(text, begin))] if at < len(due) else []
+    return min(told, default=None)
 
-    def __init__(self, name, file):
-        self.name, self.file = name, file
-        self.parts, self.owners, self.size = [], [], 0
-        self.due = self.came = 0
-        self.at = self.record = None  # of the first difference
 
-    def add(self, piece, record):
-        self.parts.append(piece)
-        self.owners.append(record)
-        self.size += len(piece)
-        if self.size >= CHUNK:
-            self.compare()
-
-    def compare(self):
-        due = b''.join(self.parts)
-        if self.at is None:
-            came = self.file.read(len(due))
-            while len(came) < len(due) and (more := self.file.read(len(due) - len(came))):
+def compared(name, due, file):
+    """Where a file differs from what is due, if it does. The record of OUT is not known yet."""
+    at = record = None
+    due_size = came_size = 0
+    while piece := b''.join(due.readlines(CHUNK)) if name == 'REPORT' else due.read(CHUNK):
+        if at is None:
+            came = file.read(len(piece))
+            while len(came) < len(piece) and (more := file.read(len(piece) - len(came))):
                 came += more
-            self.came += len(came)
-            if came != due:
-                self.locate(due, came)
-        self.due += len(due)
-        self.parts, self.owners, self.size = [], [], 0
+            if came != piece:
+                place = first_difference(piece, came)
+                at, record = due_size + place, dropped_at(piece, came, place) if name == 'REPORT' else None
+            came_size += len(came)
+        due_size += len(piece)
+    while piece := file.read(CHUNK):
+        came_size += len(piece)
+    if at is None and came_size > due_size:
+        at = due_size
+    return None if at is None else Difference(name, record, at, at == came_size < due_size, came_size, due_size)
 
-    def locate(self, due, came):
-        at = first_difference(due, came)
-        place, self.at = 0, self.due + at
-        for piece, record in zip(self.parts, self.owners):
-            if place <= at < place + len(piece):
-                self.record = record
-                told = DROP.match(came, place) if self.name == 'REPORT' else None
-                # The drop of the lesser record is the one that only one of both has.
-                if told and (record is None or int(told[1]) < record):
-                    self.record = int(told[1])
-            place += len(piece)
 
-    def end(self):
-        """What was found."""
-        self.compare()
-        while piece := self.file.read(CHUNK):
-            self.came += len(piece)
-        if self.at is None and self.came > self.due:
-            self.at = self.due
-        return [] if self.at is None else [Difference(self.name, self.record, self.at, self.at == self.came < self.due, self.came, self.due)]
+class Inputs(typing.NamedTuple):
+    """The files that are given to the program."""
+
+    policy: program_calls.File
+    capture: program_calls.File
+    graphs: typing.Optional[program_calls.File]
+
+    def run(self, out, report):
+        return Call('run', self.policy, self.capture, out, report, *(['--graph', self.graphs] if self.graphs else []))
+
+    def why(self, policy=None, number=None, report=PIPE):
+        return Call('why', policy or self.policy, self.capture, report, *(['--record', number] if number else []))
+
+
+def dropped_records(why):
+    """The record and the rest of each line `drop` of a report, and then the lines behind them."""
+    for line in why.pipes[0]:
+        lead, _, rest = line.partition(b' ')
+        if lead == b'drop':
+            record, _, rest = rest.partition(b' ')
+            yield int(record), rest
+        elif lead != b'nfp':
+            yield None, line
+
+
+NONE_LEFT = float('inf'), b''
 
 
 class Walk:
-    """Runs the packets of a capture through the chains of a policy, one after another, and notes what each function does with each."""
+    """What the program reports of the packets of a capture, beside what the capture has of them."""
 
-    def __init__(self, checked, capture, number=None, graphs=None, wanted=None, keeps_drops=True, most_found=None):
-        self.chains, self.capture = packet_rules.Chains(checked, graphs), capture
-        self.functions = {each.name: Function(chain.name, each) for chain, _ in checked for each in chain.functions}
-        self.orders = {chain.name: [self.functions[name] for name in order] for chain, order in checked}
-        self.memo = packet_memo.Memo(self.chains, self.functions)
-        self.wanted = wanted or (Wanted(number) if number is not None else None)
+    def __init__(self, text, orders, inputs, capture, wanted=None, keeps_drops=True, most_found=None):
+        self.inputs, self.capture = inputs, capture_stream.Stream(capture)
+        self.policy = policy_lines.Policy(text)
+        self.functions = {each.name: Function(each) for each in self.policy.functions}
+        self.orders = {chain: [self.functions[name] for name in order] for chain, order in orders.items()}
+        self.wanted = wanted
         self.records = self.dropped = 0
         self.drops = Drops() if keeps_drops else None
         self.way, self.found, self.matches, self.most_found = None, [], 0, most_found
-        self.out = self.report = None
+        self.first = None  # of the packets that were found: its number, time and frame, and where it ends in the capture
+        self.lots, self.known = {}, {}
+        self.counts, self.fault, self.refusal = {}, None, None
         self.differences = []
-        self.first_time = self.last_time = None
 
-    def hold(self, out, report):
-        """Compares these files of a run with what is due, when the walk goes."""
-        self.out, self.report = Held('OUT', out), Held('REPORT', report)
+    def go(self, out, report, show):
+        """Compares these files of a run with what is due, and reads what the program reports. Each thousand packets it is shown their number."""
+        number = self.wanted.number if self.wanted else None
+        with contextlib.ExitStack() as open_now:
+            pool = open_now.enter_context(concurrent.futures.ThreadPoolExecutor(2))
+            run = open_now.enter_context(self.inputs.run(PIPE, PIPE))
+            why = open_now.enter_context(self.inputs.why(number=number))
+            due = [pool.submit(compared, *each) for each in (('REPORT', run.pipes[1], report), ('OUT', run.pipes[0], out))]
+            chains = iter(())
+            if self.wanted:
+                policy = open_now.enter_context(program_calls.file_of(self.policy.classing()))
+                chains = dropped_records(open_now.enter_context(self.inputs.why(policy)))
+            lines = dropped_records(why)
+            behind = self.read(lines, chains, show)
+            self.count(line.decode().rstrip('\n') for line in behind)
+            ended = why.ended()
+            found = [each.result() for each in due]
+            run.ended()
+        if not self.counts:
+            self.refusal = ended.note.strip()
+            return
+        self.differences = [self.with_owner(each) for each in found if each]
+        if self.first and not self.is_other:
+            self.way = self.traced(ended.note if number else None)
 
-    def items(self):
-        growth = self.chains.growth
-        return self.capture.items(growth) if isinstance(self.capture, capture_stream.Stream) else capture_stream.of_capture(self.capture, growth)
+    @property
+    def is_other(self):
+        """Whether the files are not of such a run, so that nothing is explained."""
+        return bool(self.differences) and not all(each.is_cut for each in self.differences)
 
-    def go(self, show):
-        """Each thousand packets it is shown their number."""
-        take, memo, drops, wanted = self.memo.take, self.memo, self.drops, self.wanted
-        skip = lambda piece, record: None  # noqa: E731
-        out, report = (held.add if held else skip for held in (self.out, self.report))
-        report(b'nfp report 1\n', None)
-        number, time, known = 0, None, {}
-        for at, frame, spelled, respell in self.items():
-            if at is None:
-                out(spelled, None)
+    # What the program reports.
+
+    def read(self, lines, chains, show):
+        """Reads the lines `drop` beside the packets. Returns the lines behind them."""
+        wanted, number = self.wanted, 0
+        dropped, rest = next(lines, NONE_LEFT)
+        classed = next(chains, NONE_LEFT)
+        for time, frame, _, _ in self.capture.items(0):
+            if time is None:
                 continue
-            time = at
             number += 1
             if number % STEP == 0:
                 show(number)
-            if number == 1:
-                self.first_time = time
-            if wanted is not None and wanted.fits(number, time, frame, known):
-                left = self.find(number, time, frame)
-            else:
-                left = take(frame, time)
-            if left is None:
-                self.dropped += 1
-                report(b'drop %d %b' % (number, memo.counter.drop_words), number)
-                if drops is not None:
-                    drops.add(number, (memo.counter, memo.cause, memo.source))
-            elif left is frame and spelled is not None:
-                out(spelled, number)
-            else:
-                out(respell(spelled, left), number)
-        self.records, self.last_time = number, time
-        memo.settle()
-        if self.report and not self.capture.is_refused:
-            self.end()
+            drop = None
+            if number == dropped:
+                drop = self.note_drop(number, rest, frame)
+                dropped, rest = next(lines, NONE_LEFT)
+            if wanted is not None and wanted.fits(number, time, frame):
+                while classed[0] is not None and classed[0] < number:
+                    classed = next(chains, NONE_LEFT)
+                chain = classed[1].split(b' ')[0].decode() if classed[0] == number else None
+                self.find(number, time, frame, chain, drop)
+        self.records = number
+        if dropped is not None:
+            if dropped != NONE_LEFT[0]:
+                raise Changed
+            return
+        yield rest
+        yield from (line for _, line in lines)
 
-    def end(self):
-        """The rest of the report, and what differs."""
-        total = f'records {self.records} emitted {self.records - self.dropped} dropped {self.dropped}'
-        fault = self.capture.fault and f'capture: {self.capture.fault}'
-        for line in packet_rules.rest_of_report(self.chains.all, total, fault):
-            self.report.add(f'{line}\n'.encode(), None)
-        self.differences = self.report.end() + self.out.end()
+    def note_drop(self, number, rest, frame):
+        """A line `drop` of this record. Returns the name of the function."""
+        if rest not in self.known:
+            _, name, _, line = rest.decode().split()
+            self.known[rest] = self.functions[name], self.functions[name].cause([int(line)])
+        why, source = self.known[rest], frame_fields.source_of(frame)
+        lot = self.lots.setdefault(why, {})
+        lot[source] = lot.get(source, 0) + 1
+        if self.drops is not None:
+            self.drops.add(number, (*why, source))
+        self.dropped += 1
+        return why[0].name
 
-    def find(self, number, time, frame):
-        """What is left of a packet that is looked for. The way of the first one is noted."""
+    def find(self, number, time, frame, chain, drop):
+        """Notes a packet that is looked for."""
         self.matches += 1
-        if self.way is None:
-            return self.slowly(number, time, frame)
-        left, memo = self.memo.take(frame, time), self.memo
-        self.note_found(number, time, frame, memo.line and memo.line.name, None if left is not None else memo.counter.name)
-        return left
-
-    def note_found(self, number, time, frame, chain, drop):
+        if self.first is None:
+            self.first = number, time, frame, self.capture.tell()
         if self.most_found is None or len(self.found) < self.most_found:
-            self.found.append(found_of(number, time, fields_of(packet_rules.Packet(frame, time)), chain, drop))
+            self.found.append(found_of(number, time, frame_fields.fields_of(frame), chain, drop))
 
-    def slowly(self, number, time, frame):
-        """What is left of a packet whose way is noted."""
-        fields, steps, memo = fields_of(packet_rules.Packet(frame, time)), [], self.memo
-        before = dict(fields)
-
-        def look(name, cause, passes, packet):
-            function = self.functions[name]
-            function.count(cause, 1, packet.is_changed, not passes)
-            packet.is_changed = False
-            after = fields_of(packet)
-            changes = [Change(field, before.get(field), after.get(field)) for field in SHOWN if before.get(field) != after.get(field)]
-            steps.append(Step(function, cause, passes, changes))
-            before.clear()
-            before.update(after)
-
-        fate = self.chains.fate(frame, time, look)
-        memo.taken[fate.chain] += 1
-        if fate.drop:
-            memo.counter, memo.cause = steps[-1].function, steps[-1].cause
-            memo.source = packet_memo.source_of(packet_rules.Packet(frame, time))
-            memo.add_source()
-        self.way = Way(number, time, frame, fields, steps, fate)
-        self.note_found(number, time, frame, fate.chain, fate.drop)
-        return None if fate.drop else fate.frame
+    def count(self, lines):
+        """Reads the lines behind those of the drops."""
+        function, took = None, {}
+        for line in lines:
+            words = line.split(' ')
+            if words[0] == 'records' and [int(word) for word in words[1::2]] != [self.records, self.records - self.dropped, self.dropped]:
+                raise Changed
+            if words[0] == 'no':
+                took[None] = int(words[3])
+            elif words[0] == 'chain':
+                took[words[1]] = int(words[3])
+            elif words[0] == 'function':
+                function = self.functions[words[2]]
+                function.seen, function.changed, function.dropped = (int(word) for word in words[5::2])
+            elif words[0] == '':
+                function.hits[int(words[3])] = int(words[5])
+            elif words[0] == 'fault':
+                self.fault = line.partition(' ')[2]
+        self.counts = took
 
     def taken(self):
-        """How many packets each chain took, and last, by None, how many none did."""
-        return dict(self.memo.taken)
+        """How many packets each chain took, and by None, how many none did."""
+        return self.counts
 
     def sources(self):
         """How many packets of each source were dropped, by the function and the cause of the drops, the most first."""
-        for (function, cause), lot in sorted(self.memo.lots.items(), key=lambda each: -sum(each[1].values())):
+        for (function, cause), lot in sorted(self.lots.items(), key=lambda each: -sum(each[1].values())):
             yield function, cause, sorted(lot.items(), key=lambda each: (-each[1], each[0]))
 
+    # The first packet that was found.
 
-def found_of(number, time, fields, chain, drop):
-    told = {field: packet_rules.told(fields[field]) if field in fields else None for field in ('src', 'dst')}
-    ports = {field: packet_rules.number(fields[field]) if field in fields else None for field in ('sport', 'dport')}
-    proto = PROTOCOLS.get(fields['proto'][0], str(fields['proto'][0])) if 'proto' in fields else None
-    return Found(number, time, proto, told['src'], ports['sport'], told['dst'], ports['dport'], chain, drop)
+    def traced(self, note):
+        """Its way, by the trace of its record."""
+        number, time, frame, _ = self.first
+        if note is None:
+            with self.inputs.why(number=number, report='/dev/null') as why:
+                note = why.ended().note
+        _, took, *lines, end = note.splitlines()
+        chain, drop = took.removeprefix('chain ') if took != 'no chain' else None, end.partition(' ')[2] or None
+        functions = traced(lines)
+        frames = Frames(self, chain, [each.name for each in functions])
+        steps = [self.step(each, at, frames) for at, each in enumerate(functions)]
+        left = None if drop else frames.behind(len(steps))
+        return Way(number, time, frame, frame_fields.fields_of(frame), steps, chain, drop, left)
+
+    def step(self, told, at, frames):
+        changes = []
+        for field, *values in told.values:
+            if field == 'frame':
+                changes += changes_between(frames.behind(at), frames.behind(at + 1))
+            elif field == 'payload':
+                changes += [each for each in changes_between(frames.behind(at), frames.behind(at + 1)) if each.field == 'payload']
+            else:
+                changes.append(Change(field, *(value_of(field, value) for value in values)))
+        function = self.functions[told.name]
+        return Step(function, function.cause(told.lines), told.verdict != 'dropped', changes)
+
+    # Where files differ.
+
+    def with_owner(self, found):
+        """A difference of OUT with the record in which it is."""
+        if found.file != 'OUT' or found.byte >= found.due:
+            return found
+        with self.inputs.run(PIPE, '/dev/null') as run, self.inputs.why() as why:
+            lines, place, number = dropped_records(why), 0, 0
+            dropped, _ = next(lines, NONE_LEFT)
+            for time, frame, spelled, respell in capture_stream.Stream(run.pipes[0]).items(0):
+                if time is not None:
+                    number += 1
+                    while dropped == number:
+                        number, (dropped, _) = number + 1, next(lines, NONE_LEFT)
+                place += len(spelled if spelled is not None else respell(spelled, frame))
+                if place > found.byte:
+                    return found._replace(record=None if time is None else number)
+        return found
+
+
+class Frames:
+    """The frames of the first packet that was found, behind each function of its chain. The program makes them: a policy with the functions up to
+    that one runs over the capture up to that packet."""
+
+    def __init__(self, walk, chain, names):
+        self.walk, self.chain, self.names = walk, chain, names
+        _, _, frame, self.end = walk.first
+        self.known = {0: frame}
+
+    def behind(self, count):
+        """Behind that many functions, all of which let it pass."""
+        if count not in self.known:
+            with contextlib.ExitStack() as open_now:
+                policy = open_now.enter_context(program_calls.file_of(self.walk.policy.front(self.chain, self.names[:count])))
+                capture = open_now.enter_context(program_calls.fed(self.walk.inputs.capture, self.end))
+                run = open_now.enter_context(Call('run', policy, capture, PIPE, '/dev/null'))
+                for item in capture_stream.Stream(run.pipes[0]).items(0):
+                    frame = item[1]
+                self.known[count] = frame
+        return self.known[count]

@@ -1,11 +1,11 @@
-"""What tools/explain knows of a run, as the rows of tables, as an object of JSON, and as the lines of a text. explained.py works it out."""
+"""What `explain` knows of a run, as the rows of tables, as an object of JSON, and as the lines of a text. explained.py asks the program for it."""
 
 import datetime
 import struct
 import typing
 
 import explained
-import packet_rules
+import frame_fields
 
 # The columns of each table.
 TABLES = {
@@ -51,8 +51,8 @@ SPELLED = {
     'link-src': lambda value: value.hex(':'),
     'tag': tags_text,
     'proto': lambda value: explained.PROTOCOLS.get(value[0], str(value[0])),
-    'src': packet_rules.told,
-    'dst': packet_rules.told,
+    'src': frame_fields.told,
+    'dst': frame_fields.told,
     'payload': lambda value: value.hex(),
 }
 
@@ -61,7 +61,7 @@ def spelled(field, value):
     """A value of a field, or None where there is none."""
     if value is None:
         return None
-    return SPELLED[field](value) if field in SPELLED else str(packet_rules.number(value))
+    return SPELLED[field](value) if field in SPELLED else str(frame_fields.number(value))
 
 
 def shown(text):
@@ -92,16 +92,15 @@ def change_text(change):
 
 
 def totals_row(walk):
-    fault = f'capture: {walk.capture.fault}' if walk.capture.fault else None
-    return walk.records, walk.records - walk.dropped, walk.dropped, walk.taken()[None], fault
+    return walk.records, walk.records - walk.dropped, walk.dropped, walk.taken()[None], walk.fault
 
 
 def field_rows(way):
     """The fields as they were read and as they go out, where they do."""
     if not way:
         return
-    after = {} if way.fate.drop else explained.fields_of(packet_rules.Packet(way.fate.frame, 0))
-    for field in explained.SHOWN:
+    after = {} if way.drop else frame_fields.fields_of(way.left)
+    for field in frame_fields.SHOWN:
         if field in way.fields or field in after:
             yield way.record, field, spelled(field, way.fields.get(field)), spelled(field, after.get(field))
 
@@ -128,8 +127,8 @@ def walk_rows(walk):
     for each in walk.functions.values():
         yield 'functions', (each.chain, each.name, each.kind, each.line, each.seen, each.dropped, each.changed)
         yield from (('rules', (each.chain, each.name, rule.line, rule.text, rule.packets)) for rule in each.rules())
-    for record, function, cause, source in walk.drops:
-        yield 'drops', (record, function.chain, function.name, cause.reason, cause.lines[0] if cause.lines else None, source or None)
+    for drop in walk.drops:
+        yield 'drops', (drop.record, drop.function.chain, drop.function.name, drop.cause.reason, drop.cause.lines[0] if drop.cause.lines else None, drop.source or None)
     for function, cause, lot in walk.sources():
         lead = function.chain, function.name, cause.reason, cause.lines[0] if cause.lines else None
         yield from (('sources', (*lead, source or None, packets)) for source, packets in lot)
@@ -170,9 +169,9 @@ def counted(count, what='packet'):
 
 def reason_text(function, cause):
     if not cause.lines:
-        return 'the default' if cause.reason == packet_rules.DEFAULT else cause.reason
+        return 'the default' if cause.reason == explained.DEFAULT else cause.reason
     texts = (f'line {line}: {shown(function.texts[line])}' for line in cause.lines)
-    return f'{"the pattern of " if cause.reason == packet_rules.PATTERN else ""}{", ".join(texts)}'
+    return f'{"the pattern of " if cause.reason == explained.PATTERN else ""}{", ".join(texts)}'
 
 
 def counted_all(shown, all_of, what):
@@ -264,12 +263,12 @@ def found_lines(walk):
 def way_lines(way):
     yield f'record {way.record}: {counted(len(way.frame), "byte")}, {time_text(way.time)}'
     yield from (f'  {field} {value_text(field, value)}' for field, value in way.fields.items())
-    if way.fate.chain is None:
+    if way.chain is None:
         yield 'no chain takes it: it goes out as it was read'
         return
-    yield f'chain {way.fate.chain} takes it'
+    yield f'chain {way.chain} takes it'
     for at, step in enumerate(way.steps, 1):
-        why = '' if step.cause == packet_rules.NOTHING else f', {reason_text(step.function, step.cause)}'
+        why = '' if step.cause == explained.NOTHING else f', {reason_text(step.function, step.cause)}'
         yield f'  {at}. {step.function.name}, {step.function.kind}: {"passes" if step.passes else "DROPPED"}{why}'
         yield from (f'       {change_text(change)}' for change in step.changes)
-    yield f'dropped by {way.fate.drop}' if way.fate.drop else f'goes out with {counted(len(way.fate.frame), "byte")}'
+    yield f'dropped by {way.drop}' if way.drop else f'goes out with {counted(len(way.left), "byte")}'

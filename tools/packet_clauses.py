@@ -5,9 +5,7 @@ the program.
 import functools
 import ipaddress
 
-
-def number(data):
-    return int.from_bytes(data, 'big')
+from frame_fields import number
 
 
 # Of many packets few addresses differ, and making one takes long.

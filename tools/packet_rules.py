@@ -6,124 +6,19 @@ Before and after one that rewrites it whole its checksums follow what was writte
 docs/POLICY.md says the same in words. How captures are read and written is in capture_rules.py.
 """
 
-import functools
 import struct
 import typing
 
 import capture_rules
 import graph_rules
 import policy_rules
-from packet_clauses import FirstMet, address_of, number
+from frame_fields import TCP, UDP, control_bits, data_offset, even, header_of, number, places_of, told, type_place, words_of
+from packet_clauses import FirstMet, address_of
 
-TCP, UDP = 6, 17
 VLAN_TAG, SERVICE_TAG = 0x8100, 0x88A8
-TAG_TYPES = (b'\x81\x00', b'\x88\xa8')
 
 
-# Frames and their fields.
-
-
-class Header(typing.NamedTuple):
-    """The IP header of a frame, and where it and the one of TCP or UDP stand."""
-
-    version: int
-    begin: int
-    size: int  # of the IP header, as it states it
-    proto: typing.Optional[int]  # None where it wasn't captured
-    length: typing.Optional[int]  # of the packet with its header, None where it wasn't captured or takes more than 16 bits
-    transport: typing.Optional[int]  # None where there is none, as in a later fragment
-    end: int  # of what was captured of the packet
-
-
-# Where the fields of an IP header are in it, and their sizes (RFC 791, 3.1; RFC 8200, 3).
-PLACES = {
-    4: {'tos': (1, 1), 'ttl': (8, 1), 'src': (12, 4), 'dst': (16, 4)},
-    6: {'ttl': (7, 1), 'src': (8, 16), 'dst': (24, 16)},
-}
-PROTO = {4: 9, 6: 6}
-
-
-def type_place(frame):
-    """Where the type of Ethernet is, after all tags, or None in a runt."""
-    if len(frame) < 14:
-        return None
-    place = 12
-    while frame[place : place + 2] in TAG_TYPES and place + 6 <= len(frame):
-        place += 4
-    return place
-
-
-def version_of(kind, first):
-    """The version of the IP header that begins with this byte after this type of Ethernet, or None: IPv4's has at least five words."""
-    if kind == b'\x08\x00' and b'\x45' <= first <= b'\x4f':
-        return 4
-    return 6 if kind == b'\x86\xdd' and b'\x60' <= first <= b'\x6f' else None
-
-
-def header_of(frame, place):
-    """The headers of a frame, or None if it has no IP header. Its type of Ethernet is at this place."""
-    version = None if place is None else version_of(frame[place : place + 2], frame[place + 2 : place + 3])
-    if version is None:
-        return None
-    begin = place + 2
-    proto = frame[begin + PROTO[version]] if len(frame) > begin + PROTO[version] else None
-    if version == 4:
-        size, length = 4 * (frame[begin] & 0xF), number(frame[begin + 2 : begin + 4]) if len(frame) >= begin + 4 else None
-    else:
-        size, length = 40, 40 + number(frame[begin + 4 : begin + 6]) if len(frame) >= begin + 6 else None
-        length = None if length is None or length > 65535 else length
-    is_first = version == 6 or number(frame[begin + 6 : begin + 8]) & 0x1FFF == 0
-    has_transport = proto in (TCP, UDP) and length is not None and is_first and size <= length
-    end = len(frame) if length is None else min(len(frame), begin + length)
-    return Header(version, begin, size, proto, length, begin + size if has_transport else None, end)
-
-
-def data_offset(frame, header):
-    """The byte of a TCP header that says where its data begin, or None if there is none."""
-    if header is None or header.transport is None or header.proto != TCP or header.transport + 12 >= header.end:
-        return None
-    return frame[header.transport + 12]
-
-
-def control_bits(frame, header):
-    """The byte of a TCP header with its flags, or None if there is none."""
-    if header is None or header.transport is None or header.proto != TCP or header.transport + 13 >= header.end:
-        return None
-    return frame[header.transport + 13]
-
-
-# Of many frames few differ in where their fields stand.
-@functools.lru_cache(16384)
-def places_of(size, behind_tags, header, offset):
-    """The places of the fields that a frame of this size with these tags and headers has, by the words that name them."""
-    places = {}
-    if size >= 6:
-        places['link-dst'] = 0, 6
-    if size >= 12:
-        places['link-src'] = 6, 12
-    if behind_tags is not None:
-        places['tag'] = 12, behind_tags
-    if header is None:
-        return places
-    for name, (begin, length) in PLACES[header.version].items():
-        if header.begin + begin + length <= size:
-            places[name] = header.begin + begin, header.begin + begin + length
-    if header.transport is None:
-        return places
-    for name, begin in ('sport', header.transport), ('dport', header.transport + 2):
-        if begin + 2 <= header.end:
-            places[name] = begin, begin + 2
-    payload = payload_place(header, offset)
-    if payload is not None and payload <= header.end:
-        places['payload'] = payload, header.end
-    return places
-
-
-def payload_place(header, offset):
-    """Where the data after the header of TCP or UDP begin, or None if the header doesn't say it."""
-    if header.proto == UDP:
-        return header.transport + 8
-    return None if offset is None or offset >> 4 < 5 else header.transport + 4 * (offset >> 4)
+# Packets.
 
 
 class Packet:
@@ -199,16 +94,6 @@ def adjusted_by_words(old, before, after):
     return total ^ 0xFFFF
 
 
-def even(data):
-    """A last odd byte is the high one of a word whose low one is 0."""
-    return data + b'\0' if len(data) % 2 else data
-
-
-def words_of(data):
-    """Words of 16 bits."""
-    return struct.unpack(f'>{(len(data) + 1) // 2}H', even(data))
-
-
 def sealed(packet):
     """The frame with what was written into it, its checksums adjusted. Of tags, which are put in last, no checksum knows."""
     frame = packet.laid()
@@ -259,12 +144,6 @@ def put_sum(frame, at, value):
     frame[at : at + 2] = value.to_bytes(2, 'big')
 
 
-@functools.lru_cache(65536)
-def told(address):
-    """The bytes of an address as a report prints it: that of IPv6 as eight groups, none of them left out."""
-    return '.'.join(map(str, address)) if len(address) == 4 else ':'.join(f'{group:x}' for group in words_of(address))
-
-
 # The kinds. Each is made of what its lines say. Its step is true where the packet passes, and its lines tell its state in
 # the order of first sight.
 
@@ -279,6 +158,7 @@ class Cause(typing.NamedTuple):
 # The reasons. The first three are followed by lines, but for a default that no line states.
 RULE, DEFAULT, PATTERN = 'rule', 'default', 'pattern'
 NO_PORT, NOBODY, NO_TOKENS, NO_HOPS = 'no port left', 'a port that nobody has', 'no tokens', 'time to live'
+LEAVES, COMES = 'outbound and translated', 'inbound and translated'
 NOTHING = Cause('nothing')
 
 
@@ -359,6 +239,7 @@ class Nat(Function):
             self.endpoint_of[packet.proto, self.port_of[endpoint]] = endpoint
         packet.put('src', self.public)
         packet.put('sport', self.port_of[endpoint])
+        self.cause = Cause(LEAVES)
         return True
 
     def come(self, packet):
@@ -367,6 +248,7 @@ class Nat(Function):
         _, address, port = self.endpoint_of[packet.proto, packet.get('dport')]
         packet.put('dst', address)
         packet.put('dport', port)
+        self.cause = Cause(COMES)
         return True
 
     def lines(self):

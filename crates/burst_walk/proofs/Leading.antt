@@ -12,7 +12,7 @@ use Rattle.piece_walk.specs.Pieces.{Piece}
 use Rattle.service_walk.specs.Service.{Classed, is_of as takes, packets_in}
 use Rattle.service_walk.specs.Weaving.{each_fates}
 use Rattle.classifier.specs.declared.burst.Item.{Item}
-use Rattle.chain_service.specs.GraphRun.{is_of, packet_of, packets_taken}
+use Rattle.chain_service.specs.SegmentRunProofs.{is_of, packet_of, packets_taken}
 use Rattle.policy_chains.specs.NamedFunctions.{named_behaviour}
 use Rattle.chain_service.specs.Opening.{pieces_in}
 use Rattle.policy_chains.specs.declared.named.NamedFunction.{NamedFunction}

@@ -11,7 +11,7 @@ use Rattle.service_walk.specs.Service.{Classed, packets_in}
 use Rattle.packet_version.specs.Tallies.{count_of, raised}
 use Rattle.classifier.specs.Classes.{class_of}
 use Rattle.classifier.specs.declared.burst.Item.{Item}
-use Rattle.chain_service.specs.GraphRun.{packet_of}
+use Rattle.chain_service.specs.SegmentRunProofs.{packet_of}
 use Rattle.piece_walk.specs.PiecePackets.{pieces_after}
 use Rattle.chain_service.specs.SegmentRun.{copies_through}
 use Rattle.policy_chains.specs.NamedFunctions.{named_behaviour}

@@ -2,7 +2,7 @@
 //!
 //! [`walk_burst`] runs each packet of a burst through the chain that takes it, chain by chain, and returns the fate of
 //! each, in the packets' order, and the chains as the last packet left them: as if each packet had walked through its
-//! chain after the packets before it. `specs/Fates.antt` defines the fates of the packets of a capture.
+//! chain after the packets before it. `policy_chains` defines the fates of the packets of a capture.
 //!
 //! Left out: what is written of them.
 #![tactic(auto)]

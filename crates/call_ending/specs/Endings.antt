@@ -47,9 +47,13 @@ abbrev pub untold : Outcome → Outcome
 untold Done = WriteFault slots.Note
 untold outcome = outcome
 
--- The line was put whole, or it ran out of memory, or Note failed; a prefix was put in each case.
+-- The line of an outcome was put whole, or it ran out of memory, or Note failed; a prefix was put in each case.
+abbrev pub NotesLine : Outcome → List ℕ → SlotView → SlotView → Outcome → Type 0
+NotesLine seen line old new outcome =
+    ((outcome ≡ seen) × Appends line old new)
+    ⊎ ((outcome ≡ OutOfMemory) × AppendsPrefix line old new)
+    ⊎ ((outcome ≡ untold seen) × IsRisen old.faults new.faults × AppendsPrefix line old new)
+
+-- the same for work that ended so
 abbrev pub Notes : Ending → SlotView → SlotView → Outcome → Type 0
-Notes ending old new outcome =
-    ((outcome ≡ outcome_seen ending) × Appends (text_of ending) old new)
-    ⊎ ((outcome ≡ OutOfMemory) × AppendsPrefix (text_of ending) old new)
-    ⊎ ((outcome ≡ untold (outcome_seen ending)) × IsRisen old.faults new.faults × AppendsPrefix (text_of ending) old new)
+Notes ending old new outcome = NotesLine (outcome_seen ending) (text_of ending) old new outcome

@@ -2,7 +2,7 @@
 ghost use Rattle.std.specs.Prelude.{◌≡◌, ◌≢◌, ◌≤◌, IfOk};
 ghost use Rattle.nfp_outside.specs.declared.slot.Slot.{Slot};
 ghost use Rattle.call_ending.specs.Notes.{number_text, usage_text, done_text, slot_word, read_fault_text, write_fault_text};
-ghost use Rattle.call_ending.specs.Endings.{outcome_seen, stop_text, text_of, untold, CountsWithin, Notes};
+ghost use Rattle.call_ending.specs.Endings.{outcome_seen, stop_text, text_of, untold, CountsWithin, Notes, NotesLine};
 
 use crate::ending::{Ending, GraphRefusal};
 use crate::outcome::Outcome;
@@ -25,9 +25,17 @@ pub fn put_note<D: Desk>(alloc: Global, desk: &mut D, ending: Ending) -> Outcome
         Ok(told) => told,
         Err(_) => return Outcome::OutOfMemory,
     };
-    match write_whole(desk, Slot::Note, told.line.as_slice()) {
-        Ok(()) => told.outcome,
-        Err(OutsideFault::WriteFault(_)) => untold(told.outcome),
+    put_line(desk, told.outcome, told.line.as_slice())
+}
+
+/// Puts this line into Note, for a call with this outcome.
+pub fn put_line<D: Desk>(desk: &mut D, outcome: Outcome, line: &[u8]) -> Outcome
+    ensures notes { NotesLine outcome line.now (D.slots desk.old Slot.Note) (D.slots desk.new Slot.Note) result }
+    ensures others { (s : Slot) → s ≢ Slot.Note → D.slots desk.new s ≡ D.slots desk.old s }
+{
+    match write_whole(desk, Slot::Note, line) {
+        Ok(()) => outcome,
+        Err(OutsideFault::WriteFault(_)) => untold(outcome),
         Err(_) => Outcome::OutOfMemory,
     }
 }

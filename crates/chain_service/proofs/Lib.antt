@@ -1,9 +1,5 @@
 pub mod Chaining
-pub mod CutSoFar
-pub mod Joined
-pub mod Joining
+pub mod Fewness
 pub mod Opens
 pub mod Serving
-pub mod Shown
-pub mod Taking
 pub mod Written

@@ -9,15 +9,16 @@
 //! Left out: how packets are run through the chains.
 #![tactic(auto)]
 
-mod cutting;
 mod in_graph;
-mod laws;
 mod pieces;
+mod running;
 mod service;
 
-pub use laws::the_plan_is_what_runs;
 pub use pieces::ChainPieces;
 pub use service::{Service, ServiceChain, make_service};
+
+// What a chain runs, as its plan shows it, for the crates above.
+pub use policy_chains::the_plan_is_what_runs;
 
 // The pieces of chains and the ways to run them, for the crates above.
 pub use segment_run::{

@@ -1,29 +1,25 @@
 //! The chains of a policy, ready to run.
-ghost use Rattle.std.specs.Prelude.{◌≡◌, ◌<◌, ◌≤◌, All, IfOk, OnOk, IsPermutation, length, map, slice_get};
-ghost use Rattle.std.specs.List.{AllZip, range_with_len};
+ghost use Rattle.std.specs.Prelude.{◌≡◌, ◌≤◌, All, IfOk, length, map};
+ghost use Rattle.std.specs.List.{AllZip};
 ghost use Rattle.policy_text.specs.Names.{name_at, names_at};
 ghost use Rattle.policy_judge.specs.Making.{functions_made, place_of};
 ghost use Rattle.policy_judge.specs.Orders.{IsOrdered};
-ghost use Rattle.segment_run.specs.Segments.{pieces_of};
-ghost use Rattle.chain_service.specs.Cutting.{GoesOn, with_declared};
 ghost use Rattle.chain_service.specs.Fitting.{FitAll, Fits};
 ghost use Rattle.chain_service.specs.Opening.{IsOpening, IsOpeningChain, chains_of, pieces_in};
 ghost use Rattle.policy_chains.specs.Services.{in_graph, names_by, pieces_at, pieces_by, service_among};
-ghost use Rattle.chain_service.specs.Taking.{without};
 
-use crate::cutting::Cutting;
 use crate::in_graph::in_graph;
 use crate::pieces::ChainPieces;
+use crate::running::running_pieces;
 use classifier::ClassTable;
 use graph_compile::Graph;
 use item_list::Items;
 use net_functions::Made;
 use packet_version::Tally;
-use policy_chains::NamedFunction;
+use policy_chains::{chain_parts, one_piece_has_the_profiles};
 use policy_check::Order;
 use policy_judge::Judged;
 use policy_text::{ChainPolicy, FunctionDecl, Name, Policy, name_at};
-use segment_run::Piece;
 use std::alloc::{AllocError, Global};
 
 /// A chain that runs: its declaration; the names of its functions, in the order in which a packet goes through them;
@@ -115,7 +111,9 @@ fn service_chain(
     let declared = chain.functions.as_slice();
     let places = order.positions.as_slice();
     let names = names(alloc, declared, places)?;
-    let pieces = pieces(alloc, declared, places, made.into_vec())?;
+    let parts = chain_parts(alloc, declared, places, made.into_vec())?;
+    let pieces = running_pieces(alloc, parts)?;
+    one_piece_has_the_profiles();
     let pieces = in_graph(pieces, graph)?;
     Ok(ServiceChain {
         declared: chain,
@@ -141,50 +139,4 @@ fn name(alloc: Global, declared: &[FunctionDecl], place: u32) -> Result<Name, Al
 {
     let name = name_at(declared, place).to_vec(alloc)?;
     Ok(Name::new(name))
-}
-
-// The pieces of the functions that are declared at these places, each taken out of those that were made. No place
-// occurs twice, so each function is found.
-#[tactic(auto, using(crate::proofs::CutSoFar::cutting_begins, crate::proofs::CutSoFar::cutting_goes_on, crate::proofs::CutSoFar::cutting_ends))]
-fn pieces(
-    alloc: Global,
-    declared: &[FunctionDecl],
-    places: &[u32],
-    made: Vec<Option<Made>>,
-) -> Result<Vec<Piece<NamedFunction>>, AllocError>
-    requires each_once { IsPermutation (range_with_len 0 (length declared.now)) places.now }
-    requires inside { All (λ p. p < length declared.now) places.now }
-    requires few { length places.now ≤ 64 }
-    requires made { made.items ≡ map place_of declared.now }
-    ensures { IfOk result (λ pieces. pieces_of pieces.items ≡ pieces_at declared.now places.now) }
-{
-    let mut made = made;
-    let mut cutting = Cutting::new(alloc);
-    'places: for place in places {
-        cutting = with_place(alloc, cutting, declared, &mut made, *place as usize)?;
-    }
-    cutting.into_pieces(alloc)
-}
-
-// Takes the function that was made for a place, and adds it with its name.
-#[tactic(auto, using(crate::proofs::Taking::is_there, crate::proofs::Taking::goes_on_so))]
-fn with_place(
-    alloc: Global,
-    cutting: Cutting,
-    declared: &[FunctionDecl],
-    made: &mut [Option<Made>],
-    place: usize,
-) -> Result<Cutting, AllocError>
-    requires inside { place < length declared.now }
-    requires as_long { length made.old ≡ length declared.now }
-    requires untaken { slice_get made.old place ≡ slice_get (map place_of declared.now) place }
-    requires few { length cutting.waiting.items ≤ 64 }
-    ensures goes_on { IfOk result (λ new. GoesOn cutting new (with_declared declared.now place)) }
-    ensures taken { OnOk result (made.new ≡ without made.old place) }
-{
-    let name = Name::new(declared[place].name.bytes().to_vec(alloc)?);
-    match made[place].take() {
-        Some(function) => cutting.with(alloc, name, function),
-        None => unreachable!(),
-    }
 }

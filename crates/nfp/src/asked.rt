@@ -17,6 +17,8 @@ nfp runs service chains of network functions over packet captures.
       checks a policy, and prints the order of each chain and what may run side by side
   nfp run POLICY CAPTURE OUT REPORT [--mergers N] [--burst N] [--merge WAY] [--graph NAME] [--sync]
       runs a capture through the chains of a policy: what passes is in OUT, the drops and states are in REPORT
+  nfp why POLICY CAPTURE REPORT [--record N]
+      says which line of the policy decided on each dropped packet, how often each line did, and how record N went
   nfp flows CAPTURE OUT [--workers N] [--burst N] [--sync]
       writes the flows of a capture in the classic format to OUT, as packets of NetFlow version 5
   nfp demo SEED COUNT [--mergers N] [--burst N] [--merge WAY]
@@ -26,7 +28,8 @@ nfp runs service chains of network functions over packet captures.
 
 POLICY, CAPTURE and NAME are read, OUT and REPORT are replaced. After -- each word is a name.
 NAME is a text of graphs written by hand, for chains of the policy.
-N is 1 to 16 for --mergers and --workers (2), and 1 to 65536 packets for --burst (1024). WAY is inbox or board (inbox).
+N is 1 to 16 for --mergers and --workers (2), 1 to 65536 packets for --burst (1024), and 1 to 4294967295 for --record.
+WAY is inbox or board (inbox).
 --sync brings OUT and REPORT to the disk before the line is printed.
 
 Tools, in a clone and once installed; each prints its words with --help:
@@ -59,11 +62,20 @@ pub fn question_in(words: &[String]) -> Option<Question> {
     }
 }
 
-/// Whether the words ask for a demo, which makes its packets in memory.
-pub fn is_demo(words: &[String]) -> bool {
+/// The words behind `why`, if that is the command.
+pub fn behind_why(words: &[String]) -> Option<&[String]> {
+    match words.split_first() {
+        Some((first, others)) if first.as_str() == "why" => Some(others),
+        _ => None,
+    }
+}
+
+/// Whether the command may lead packets on threads: a demo does without a capture, and `why` takes one thread.
+pub fn may_thread(words: &[String], has_capture: bool) -> bool {
     match words.first() {
-        Some(word) => word.as_str() == "demo",
-        None => false,
+        Some(word) if word.as_str() == "demo" => true,
+        Some(word) if word.as_str() == "why" => false,
+        _ => has_capture,
     }
 }
 

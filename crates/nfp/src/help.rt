@@ -2,6 +2,7 @@
 //!
 //! The line and the status are what the program promises. Where there is no memory for more, or no standard error, there is no more.
 
+use crate::asked::{behind_why, may_thread};
 use crate::odd::{count_odd, tell_odd};
 use file_desk::Reason;
 use nfp_outside::Slot;
@@ -24,10 +25,10 @@ const MOST_WORDS: usize = 64;
 /// The longest word that is looked at.
 const LONGEST_WORD: usize = 4096;
 
-/// The message if memory ran out before there were packets. It is printed without memory.
+/// The message if memory ran out and no packets were on threads. It is printed without memory.
 const NO_MEMORY: &str = "nfp: out of memory; no threads were at work\n";
 
-/// The message if there were packets.
+/// The message if packets may have been on threads.
 const NO_MEMORY_FOR_PACKETS: &str = "\
 nfp: out of memory; threads may have been at work, and each takes memory of its own
 nfp:   a smaller --burst, --mergers 1 and for flows --workers 1 take less
@@ -40,7 +41,21 @@ const LOCKED: &str = "another run writes it";
 const LED: &str = "standard output goes to it, and what is printed would get into it";
 
 /// Reports what to do about an outcome, and why its slot failed, if one did.
-pub fn tell_more<R: Env + Eprint + AllocGlobal>(
+pub fn tell_about<R: Env + Eprint + AllocGlobal>(
+    rt: &R,
+    words: &[String],
+    seen: &Seen,
+    outcome: &Outcome,
+    reason: Option<Reason>,
+    has_capture: bool,
+) {
+    match outcome {
+        Outcome::OutOfMemory => tell_memory(rt, may_thread(words, has_capture)),
+        _ => tell_more(rt, words, seen, outcome, reason),
+    }
+}
+
+fn tell_more<R: Env + Eprint + AllocGlobal>(
     rt: &R,
     words: &[String],
     seen: &Seen,
@@ -59,8 +74,8 @@ pub fn tell_more<R: Env + Eprint + AllocGlobal>(
 }
 
 /// Reports that memory ran out, and whether threads may have been at work then.
-pub fn tell_memory(rt: &impl Eprint, has_packets: bool) {
-    let _ = rt.eprint(if has_packets {
+pub fn tell_memory(rt: &impl Eprint, may_thread: bool) {
+    let _ = rt.eprint(if may_thread {
         NO_MEMORY_FOR_PACKETS
     } else {
         NO_MEMORY
@@ -84,19 +99,20 @@ fn fill<R: Env>(
                 graph::fault(page, text, *fault);
             }
         }
-        Outcome::Capture(fault) => capture::fault(page, captured(seen), *fault),
-        Outcome::CaptureNg(fault) => capture_ng::fault(page, captured(seen), *fault),
+        Outcome::Capture(fault) => capture::fault(page, captured(words, seen), *fault),
+        Outcome::CaptureNg(fault) => capture_ng::fault(page, captured(words, seen), *fault),
         Outcome::ReadFault(slot) => unread_help(page, seen, *slot, reason),
         Outcome::WriteFault(slot) => unwritten_help(page, seen, *slot, reason),
     }
 }
 
 // The capture that was read, through chains where there is a policy.
-fn captured(seen: &Seen) -> Captured<'_> {
+fn captured<'a>(words: &[String], seen: &'a Seen) -> Captured<'a> {
     Captured {
         name: seen.name(Slot::Capture).unwrap_or(""),
         front: seen.front(),
         purpose: match seen.name(Slot::Policy) {
+            Some(_) if behind_why(words).is_some() => Purpose::Why,
             Some(_) => Purpose::Chains,
             None => Purpose::Flows,
         },
@@ -168,6 +184,9 @@ fn number_help(page: &mut Page, which: Option4) {
         Option4::Mergers => usage::out_of_range(page, "the value of --mergers", 1, 16),
         Option4::Burst => usage::out_of_range(page, "the value of --burst", 1, 65536),
         Option4::Workers => usage::out_of_range(page, "the value of --workers", 1, 16),
+        Option4::Record => {
+            usage::out_of_range(page, "the value of --record", 1, u64::from(u32::MAX));
+        }
         Option4::Seed => usage::out_of_range(page, "SEED", 0, u64::MAX),
         Option4::Count => usage::out_of_range(page, "COUNT", 1, 1_000_000),
     }

@@ -1,11 +1,12 @@
-//! `nfp` runs the service chains of a policy over a capture file, shows the plan of a policy, exports the flows of a capture file,
-//! and runs a demo.
+//! `nfp` runs the service chains of a policy over a capture file, says which lines of the policy decided, shows the plan
+//! of a policy, exports the flows of a capture file, and runs a demo.
 //!
-//! The program passes its words to [`nfp_run::nfp`], over files and an open gate, and exits with the status of the outcome.
-//! What that call promises is the program's theorem. If bytes that the desk had gathered for a file were lost, the call
-//! printed no line, and the program prints the one that names that file.
+//! The program passes its words to [`nfp_run::nfp`], over files and an open gate, and those behind `why` to
+//! [`why_call::why`]. It exits with the status of the outcome. What these calls promise is the program's theorem. If
+//! bytes that the desk had gathered for a file were lost, the call printed no line, and the program prints the one that
+//! names that file.
 //!
-//! Words that ask for help or for the version are answered before that call, which takes none of them for a command. The
+//! Words that ask for help or for the version are answered before, and neither call takes one of them for a command. The
 //! option `--sync` of `run` and `flows` is taken out of the words before it, and sets the desk ([`sync`]).
 //!
 //! The desk is watched. If the environment has `NFP_PROGRESS=1` and standard error is a terminal, a long run shows its
@@ -21,9 +22,9 @@ mod help;
 mod odd;
 mod sync;
 
-use asked::{answer, is_demo, question_in};
+use asked::{answer, behind_why, question_in};
 use file_desk::{FileDesk, Host, Reason, System};
-use help::{tell_memory, tell_more};
+use help::{tell_about, tell_memory};
 use nfp_outside::{OpenGate, Slot};
 use nfp_run::{Outcome, nfp, write_fault_text};
 use std::alloc::AllocError;
@@ -34,6 +35,7 @@ use std::rt::{Clock, Env, Files};
 use std::{env, fs, io, str};
 use sync::take_sync;
 use watched_desk::{Progress, Seen, Watch, Watched};
+use why_call::why;
 
 /// The length of the longest word that is a command.
 const LONGEST_COMMAND: usize = 5;
@@ -57,17 +59,17 @@ fn main(rt: HostRuntime) -> ExitCode {
             let mut files = FileDesk::new(Host::new(files));
             files.set_sync(take_sync(&mut words));
             let mut desk = Watched::new(files, watch);
-            let outcome = nfp(&rt, rt.alloc(), &words, &mut desk, &OpenGate);
+            let outcome = match behind_why(&words) {
+                Some(words) => why(&rt, rt.alloc(), words, &mut desk),
+                None => nfp(&rt, rt.alloc(), &words, &mut desk, &OpenGate),
+            };
             let (mut files, watch) = desk.into_parts();
             let seen = watch.end();
             let outcome = end(&rt, &mut files, outcome);
             let reason = reason_of(&files, &outcome);
-            let has_packets = files.has_capture() || is_demo(&words);
+            let has_capture = files.has_capture();
             drop(files);
-            match outcome {
-                Outcome::OutOfMemory => tell_memory(&rt, has_packets),
-                _ => tell_more(&rt, &words, &seen, &outcome, reason),
-            }
+            tell_about(&rt, &words, &seen, &outcome, reason, has_capture);
             outcome
         }
         _ => {
@@ -116,9 +118,9 @@ fn wants_progress(rt: &impl Env) -> bool {
     matches!(rt.var("NFP_PROGRESS", &mut value), Ok(1)) && value[0] == b'1'
 }
 
-// The outcome of the program. If gathered bytes were lost, or can't be brought to the disk, Note has taken nothing, and the line of the first slot that failed is
-// printed here: one that had failed at a call of its own before, or else the one that lost them. Nothing is printed once
-// memory ran out.
+// The outcome of the program. If gathered bytes were lost, or can't be brought to the disk, Note has taken nothing, and
+// the line of the first slot that failed is printed here: one that had failed at a call of its own before, or else the
+// one that lost them. Nothing is printed once memory ran out.
 fn end<S: System + Drop>(
     rt: &(impl Print + AllocGlobal),
     desk: &mut FileDesk<S>,

@@ -1,4 +1,4 @@
-//! What is odd in a policy whose plan was shown, or whose chains ran.
+//! What is odd in a policy whose plan was shown, or through whose chains packets went.
 
 use nfp_outside::Slot;
 use operator_help::policy::PolicyText;

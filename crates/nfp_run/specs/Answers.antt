@@ -18,42 +18,18 @@ use Rattle.call_ending.specs.declared.outcome.Outcome.TheVariants.{Done, Usage, 
 use Rattle.command_words.specs.declared.usage.UsageFault.{UsageFault}
 use Rattle.command_words.specs.Words.{Command, Run, Plan, Demo, Flows}
 use Rattle.call_ending.specs.Notes.{read_fault_text, write_fault_text}
+pub use Rattle.call_ending.specs.Left.{IsUntouched, Holds, HoldsPrefix, LeavesSlot, LeavesPrefix, IsFinal, NoneRose, note_due, HasPolicy, HasNoOpeningFault, HasHead, IsFaultOf}
 use Rattle.nfp_run.specs.Preparing.{Unprepared, ByPolicy, ByGraph, prepared}
 use Rattle.nfp_run.specs.declared.prepared.Prepared.{Prepared}
 use Rattle.nfp_run.specs.Due.{Due}
 use Rattle.call_ending.specs.Told.{IsReadWhole, OfBytes, is_ng}
 use Rattle.nfp_run.specs.Written.{Files}
 
--- A slot that was never attached: it has no name, and its bytes are those before.
-pub record IsUntouched (old new : SlotView) : Type 0 where
-  pub no_name : new.name ≡ None
-  pub same_bytes : new.bytes ≡ old.bytes
-
--- An attached slot that holds these bytes, if the desk shows them.
-pub record Holds (bytes : List ℕ) (old new : SlotView) : Type 0 where
-  pub attached : IsSome new.name
-  pub content : new.bytes ≡ option_map (λ _. bytes) old.bytes
-
--- An attached slot that holds a prefix of these bytes.
-pub record HoldsPrefix (bytes : List ℕ) (old new : SlotView) : Type 0 where
-  pub done : List ℕ
-  pub rest : List ℕ
-  pub parts : bytes ≡ done ++ rest
-  pub holds : Holds done old new
-
--- A slot holds all that is due, or was never attached if nothing is due.
-abbrev pub LeavesSlot : Option (List ℕ) → SlotView → SlotView → Type 0
-LeavesSlot None old new = IsUntouched old new
-LeavesSlot (Some bytes) old new = Holds bytes old new
-
+-- Out and Report hold what is due.
 abbrev pub Leaves : Files → (Slot → SlotView) → (Slot → SlotView) → Type 0
 Leaves due old new = LeavesSlot due.out (old slots.Out) (new slots.Out) × LeavesSlot due.report (old slots.Report) (new slots.Report)
 
--- A slot holds a prefix of what is due, or was never attached.
-abbrev pub LeavesPrefix : Option (List ℕ) → SlotView → SlotView → Type 0
-LeavesPrefix None old new = IsUntouched old new
-LeavesPrefix (Some bytes) old new = IsUntouched old new ⊎ HoldsPrefix bytes old new
-
+-- Each holds a prefix of what is due, or was never attached.
 abbrev pub LeavesPrefixes : Files → (Slot → SlotView) → (Slot → SlotView) → Type 0
 LeavesPrefixes due old new = LeavesPrefix due.out (old slots.Out) (new slots.Out) × LeavesPrefix due.report (old slots.Report) (new slots.Report)
 
@@ -61,22 +37,6 @@ LeavesPrefixes due old new = LeavesPrefix due.out (old slots.Out) (new slots.Out
 pub record IsDue (due : Due) (old new : Slot → SlotView) (outcome : Outcome) : Type 0 where
   pub answer : outcome ≡ due.outcome
   pub left : Leaves due.written old new
-
--- an outcome that the words, the policy, the graphs and the capture alone determine
-abbrev pub IsFinal : Outcome → Type 0
-IsFinal Done = Unit {0}
-IsFinal (Usage fault) = Unit {0}
-IsFinal (Policy fault) = Unit {0}
-IsFinal (Graph fault) = Unit {0}
-IsFinal (Capture fault) = Unit {0}
-IsFinal (CaptureNg fault) = Unit {0}
-IsFinal (ReadFault slot) = ⊥
-IsFinal (WriteFault slot) = ⊥
-IsFinal OutOfMemory = ⊥
-
--- no count of a slot rose
-abbrev pub NoneRose : (Slot → SlotView) → (Slot → SlotView) → Type 0
-NoneRose old new = (s : Slot) → ¬ IsRisen (old s).faults (new s).faults
 
 -- a fact about the bytes of a slot, if the words name it and the desk shows them; without a name it is for any bytes
 abbrev pub WhereNamed : Option (List ℕ) → Option (List ℕ) → (List ℕ → Type 0) → Type 0
@@ -96,14 +56,6 @@ WhereRead (Ok (Plan names)) old P = WhereTexts names.graph old (λ policy graph.
 WhereRead (Ok (Demo input options)) old P = (policy graph capture : List ℕ) → P policy graph capture
 WhereRead (Ok (Flows names options)) old P = IfSome (old slots.Capture).bytes (λ capture. (policy graph : List ℕ) → P policy graph capture)
 WhereRead (Err fault) old P = (policy graph capture : List ℕ) → P policy graph capture
-
--- the line that is put into Note: that of a fault of reading or writing, or the one that is due
-abbrev pub note_due : Outcome → List ℕ → List ℕ
-note_due (ReadFault slot) note = read_fault_text slot
-note_due (WriteFault slots.Out) note = write_fault_text slots.Out
-note_due (WriteFault slots.Report) note = write_fault_text slots.Report
-note_due (WriteFault slot) note = note
-note_due outcome note = note
 
 -- A prefix of what is due is put into Note, and Out and Report hold all that is due; or a prefix of the line of a fault
 -- of reading or writing a slot whose count rose; or nothing.
@@ -135,22 +87,9 @@ abbrev pub HasNames : Result Command UsageFault → (Slot → SlotView) → Type
 HasNames (Err fault) new = (s : Slot) → (new s).name ≡ None
 HasNames (Ok command) new = (s : Slot) → ((new s).name ≡ None) ⊎ ((new s).name ≡ name_of command s)
 
--- the policy has no fault, if the desk shows it
-abbrev pub HasPolicy : (Slot → SlotView) → Type 0
-HasPolicy old = IfSome (old slots.Policy).bytes (λ bytes. IsOk (judged bytes))
-
--- the same for the policy and for the graphs, if the words name them
+-- the policy has no fault, nor have the graphs if the words name them
 abbrev pub HasTexts : Option (List ℕ) → (Slot → SlotView) → Type 0
 HasTexts named old = HasPolicy old × WhereTexts named old (λ policy graph. IsOk (prepared named policy graph))
-
--- the head of a classic capture has no fault, or the first block of a pcapng capture
-abbrev pub HasNoOpeningFault : Bool → List ℕ → Type 0
-HasNoOpeningFault false bytes = IsOk (capture_of bytes)
-HasNoOpeningFault true bytes = IsOk (next_of start bytes)
-
--- the same for the capture, if the desk shows it
-abbrev pub HasHead : (Slot → SlotView) → Type 0
-HasHead old = IfSome (old slots.Capture).bytes (λ bytes. HasNoOpeningFault (is_ng bytes) bytes)
 
 -- the head of a capture whose flows are counted has no fault, if the desk shows it: it has to be a classic one
 abbrev pub HasClassicHead : (Slot → SlotView) → Type 0
@@ -259,11 +198,6 @@ ReachesCapture command (Capture fault) old = ⊥
 ReachesCapture (Ok (Run names options)) (CaptureNg fault) old = HasTexts names.graph old
 ReachesCapture command (CaptureNg fault) old = ⊥
 ReachesCapture command outcome old = Unit {0}
-
--- a refusal of a policy reports this fault
-abbrev pub IsFaultOf : PolicyFault → Result Judged Refusal → Type 0
-IsFaultOf fault (Ok policy) = ⊥
-IsFaultOf fault (Err refusal) = refusal.fault ≡ fault
 
 -- the words are a command that reads a policy
 abbrev pub ReadsPolicy : Result Command UsageFault → Type 0

@@ -13,6 +13,7 @@ use Rattle.pcapng_io.specs.declared.place.Place.{Place}
 use Rattle.chain_walk.specs.declared.walk.Fate.{Fate}
 use Rattle.call_ending.specs.declared.outcome.Outcome.{Outcome}
 use Rattle.call_ending.specs.declared.outcome.Outcome.TheVariants as outcomes
+pub use Rattle.call_ending.specs.Results.{outcome_of}
 use Rattle.command_words.specs.declared.usage.UsageFault.{UsageFault}
 use Rattle.command_words.specs.Words.{Command, Run, Plan, Demo, Flows, command_of}
 use Rattle.capture_run.specs.ChainService.{Chains}
@@ -39,12 +40,7 @@ pub record Due : Type 0 where
 abbrev pub nothing_but : Outcome → List ℕ → Due
 nothing_but outcome note = record { outcome = outcome; written = neither; note = note }
 
--- a capture without a fault is done
-abbrev pub outcome_of : Option FormatFault → Outcome
-outcome_of None = outcomes.Done
-outcome_of (Some (Pcap fault)) = outcomes.Capture fault
-outcome_of (Some (Ng fault)) = outcomes.CaptureNg fault
-
+-- the line of a capture that goes through chains
 abbrev pub note_of : Option FormatFault → List Fate → List ℕ
 note_of None fates = done_text (length fates) (count_by is_gone fates)
 note_of (Some fault) fates = fault_text fault

@@ -1,5 +1,6 @@
 pub mod Answers
 pub mod Attached
+pub mod Called
 pub mod Closing
 pub mod DemoNote
 pub mod Due

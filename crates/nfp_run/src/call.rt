@@ -5,8 +5,8 @@ ghost use Rattle.nfp_outside.specs.Outside.{Appends, AppendsPrefix, IsRisen};
 ghost use Rattle.graph_text.specs.declared.fault.GraphFault.{GraphFault};
 ghost use Rattle.policy_judge.specs.declared.fault.PolicyFault.{PolicyFault};
 ghost use Rattle.command_words.specs.declared.usage.UsageFault.{UsageFault};
-ghost use Rattle.nfp_run.specs.Answers.{IsDue, IsFinal, HasNames, NoneRose, WhereRead, Leaves, LeavesPrefixes, AttachesDue, ReportBehindOut, ReachesCapture, ReadsToEnd, PolicyCause, GraphCause, ReadFaultCause, WriteFaultCause, NotesPrefix, note_due};
-ghost use Rattle.nfp_run.specs.Due.{due};
+ghost use Rattle.nfp_run.specs.Answers.{IsDue, IsFinal, HasNames, NoneRose, Leaves, LeavesPrefixes, AttachesDue, ReportBehindOut, ReachesCapture, ReadsToEnd, PolicyCause, GraphCause, ReadFaultCause, WriteFaultCause, NotesPrefix, note_due};
+ghost use Rattle.nfp_run.specs.Called.{WhereDue};
 ghost use Rattle.command_words.specs.Words.{command_of};
 
 use crate::commands::run_words;
@@ -51,37 +51,37 @@ pub fn nfp<R: Threads + Wait + Clock + Sync, D: Desk, G: Gate + Sync>(
     // The clauses on what is due hold if the desk shows what the words read: the policy, the graphs and the capture,
     // all of them, some or none. If no count of the desk rose, the outcome is the one that is due and the slots hold
     // what is due, or memory ran out.
-    ensures answers { NoneRose (D.slots desk.old) (D.slots desk.new) → WhereRead (command_of (map string_bytes words.now)) (D.slots desk.old) (λ p g c.
-        (IsDue (due (map string_bytes words.now) p g c) (D.slots desk.old) (D.slots desk.new) result
-        × Appends (due (map string_bytes words.now) p g c).note (D.slots desk.old Slot.Note) (D.slots desk.new Slot.Note))
+    ensures answers { NoneRose (D.slots desk.old) (D.slots desk.new) → WhereDue (map string_bytes words.now) (D.slots desk.old) (λ due.
+        (IsDue due (D.slots desk.old) (D.slots desk.new) result
+        × Appends due.note (D.slots desk.old Slot.Note) (D.slots desk.new Slot.Note))
         ⊎ (result ≡ Outcome.OutOfMemory)) }
     // Whatever the counts did, an outcome other than a fault of a slot or out of memory is the one that is due.
-    ensures exact { IsFinal result → WhereRead (command_of (map string_bytes words.now)) (D.slots desk.old) (λ p g c.
-        IsDue (due (map string_bytes words.now) p g c) (D.slots desk.old) (D.slots desk.new) result) }
+    ensures exact { IsFinal result → WhereDue (map string_bytes words.now) (D.slots desk.old) (λ due.
+        IsDue due (D.slots desk.old) (D.slots desk.new) result) }
     // Whatever the outcome, Out and Report hold a front part of what is due, or were never attached.
-    ensures prefixes { WhereRead (command_of (map string_bytes words.now)) (D.slots desk.old) (λ p g c.
-        LeavesPrefixes (due (map string_bytes words.now) p g c).written (D.slots desk.old) (D.slots desk.new)) }
+    ensures prefixes { WhereDue (map string_bytes words.now) (D.slots desk.old) (λ due.
+        LeavesPrefixes due.written (D.slots desk.old) (D.slots desk.new)) }
 
     // Note holds a front part of its line, and the whole of it unless its own count rose.
-    ensures noted { result ≢ Outcome.OutOfMemory → WhereRead (command_of (map string_bytes words.now)) (D.slots desk.old) (λ p g c.
-        AppendsPrefix (note_due result (due (map string_bytes words.now) p g c).note) (D.slots desk.old Slot.Note) (D.slots desk.new Slot.Note)) }
-    ensures noted_whole { result ≢ Outcome.OutOfMemory → ¬ IsRisen (D.slots desk.old Slot.Note).faults (D.slots desk.new Slot.Note).faults → WhereRead (command_of (map string_bytes words.now)) (D.slots desk.old) (λ p g c.
-        Appends (note_due result (due (map string_bytes words.now) p g c).note) (D.slots desk.old Slot.Note) (D.slots desk.new Slot.Note)) }
+    ensures noted { result ≢ Outcome.OutOfMemory → WhereDue (map string_bytes words.now) (D.slots desk.old) (λ due.
+        AppendsPrefix (note_due result due.note) (D.slots desk.old Slot.Note) (D.slots desk.new Slot.Note)) }
+    ensures noted_whole { result ≢ Outcome.OutOfMemory → ¬ IsRisen (D.slots desk.old Slot.Note).faults (D.slots desk.new Slot.Note).faults → WhereDue (map string_bytes words.now) (D.slots desk.old) (λ due.
+        Appends (note_due result due.note) (D.slots desk.old Slot.Note) (D.slots desk.new Slot.Note)) }
     // Done says that Note holds its line or the plan whole, whatever the counts did.
-    ensures done_noted { result ≡ Outcome.Done → WhereRead (command_of (map string_bytes words.now)) (D.slots desk.old) (λ p g c.
-        Appends (due (map string_bytes words.now) p g c).note (D.slots desk.old Slot.Note) (D.slots desk.new Slot.Note)) }
+    ensures done_noted { result ≡ Outcome.Done → WhereDue (map string_bytes words.now) (D.slots desk.old) (λ due.
+        Appends due.note (D.slots desk.old Slot.Note) (D.slots desk.new Slot.Note)) }
     // If memory ran out, Note holds a front part of what is due, and then Out and Report hold all that is due; or a front
     // part of the line of a fault of reading or writing a slot whose count rose; or nothing.
-    ensures noted_short { result ≡ Outcome.OutOfMemory → WhereRead (command_of (map string_bytes words.now)) (D.slots desk.old) (λ p g c.
-        NotesPrefix (due (map string_bytes words.now) p g c).note (due (map string_bytes words.now) p g c).written (D.slots desk.old) (D.slots desk.new)) }
+    ensures noted_short { result ≡ Outcome.OutOfMemory → WhereDue (map string_bytes words.now) (D.slots desk.old) (λ due.
+        NotesPrefix due.note due.written (D.slots desk.old) (D.slots desk.new)) }
     // Nothing goes into Note once memory ran out. So if it holds something all the same and no slot failed, Out and
     // Report hold what is due as a whole.
-    ensures noted_late { result ≡ Outcome.OutOfMemory → NoneRose (D.slots desk.old) (D.slots desk.new) → WhereRead (command_of (map string_bytes words.now)) (D.slots desk.old) (λ p g c.
-        Leaves (due (map string_bytes words.now) p g c).written (D.slots desk.old) (D.slots desk.new)
+    ensures noted_late { result ≡ Outcome.OutOfMemory → NoneRose (D.slots desk.old) (D.slots desk.new) → WhereDue (map string_bytes words.now) (D.slots desk.old) (λ due.
+        Leaves due.written (D.slots desk.old) (D.slots desk.new)
         ⊎ Appends [] (D.slots desk.old Slot.Note) (D.slots desk.new Slot.Note)) }
     // A fault of Note is the outcome only if the work was done, and then Out and Report are whole.
-    ensures note_fault { result ≡ Outcome.WriteFault Slot.Note → WhereRead (command_of (map string_bytes words.now)) (D.slots desk.old) (λ p g c.
-        IsDue (due (map string_bytes words.now) p g c) (D.slots desk.old) (D.slots desk.new) Outcome.Done) }
+    ensures note_fault { result ≡ Outcome.WriteFault Slot.Note → WhereDue (map string_bytes words.now) (D.slots desk.old) (λ due.
+        IsDue due (D.slots desk.old) (D.slots desk.new) Outcome.Done) }
 
     // Done says that the policy, the graphs and the capture that the words name were read to their ends, whatever the
     // counts did.

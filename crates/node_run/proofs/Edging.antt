@@ -5,16 +5,18 @@ use Rattle.action_profile.specs.declared.parts.Touch.{Touch}
 use Rattle.packet_version.specs.Splitting.{PlainApart}
 use Rattle.packet_version.specs.Versions.{PlainVersion}
 use Rattle.packet_messages.specs.Messages.{PlainMessage}
-use Rattle.packet_messages.specs.Turns.{share, shares_from, shares, columns_from, columns}
+use Rattle.packet_messages.specs.Turns.{share, share_len, shares_from, shares, columns_from, columns}
 use Rattle.packet_messages.proofs.Turning.{one_share}
 use Rattle.stage_nodes.specs.Streams.{Kit, PlainStage, Edge.Behind, Edge.FromBranch, Edge.ToBranch, Edge.ToMergers, came_from, stream}
+use Rattle.stage_nodes.specs.Turns.{places}
 use Rattle.stage_nodes.specs.declared.branch.Branch.{Branch}
 use Rattle.node_run.specs.declared.branches.Branches.{Branches}
 use Rattle.node_run.specs.declared.node.Node.{Node}
 use Rattle.node_run.specs.declared.node.Node.TheVariants as node
 use Rattle.node_run.specs.declared.wire.WiredStage.{WiredStage}
-use Rattle.node_run.specs.Edges.{NodeEnds, NodeEnds.BranchEnds, NodeEnds.MergerEnds, NodeEnds.ReplicaEnds, AreBehind, HasFirst, HaveJoined, IsOnEdges, as_lead, as_replica, branch_ends, branches_ends, ends_at, leads, merger_ends, replica_ends, replicas, replicas_behind, to_mergers, to_replicas, to_split}
+use Rattle.node_run.specs.Edges.{NodeEnds, NodeEnds.BranchEnds, NodeEnds.MergerEnds, NodeEnds.ReplicaEnds, AreBehind, HasFirst, HaveJoined, IsOnEdges, as_lead, as_replica, branch_ends, branches_ends, ends_at, leads, merger_ends, numbers, replica_ends, replicas, replicas_behind, to_mergers, to_replicas, to_split}
 use Rattle.node_run.specs.Wired.{AreWired, MergersFit}
+use Rattle.node_run.proofs.Shares.{own_share}
 use Rattle.node_run.proofs.Wiring.{tail_is}
 use Rattle.node_run.proofs.Replicating.{AreComing}
 
@@ -81,61 +83,68 @@ fan_alone versions fan old new e n = n ∙ ap (λ y. old ++ y ∷ []) (e ∙ one
 
 pub alone_joined : {F : Type 0} (k : Kit F) (m : ℕ) (xs : List (PlainMessage PlainApart)) (t : Touch) (f : F) (b : Branch F) (inlets inlets' : List (List (PlainMessage PlainVersion))) (old new : List (Node F))
     → inlets ≡ shares 1 (stream k xs (ToBranch t)) → inlets ≡ b.inlet ∷ inlets' → b.to.ends ≡ shares m (stream k xs (FromBranch t f)) → new ≡ old ++ node.Branch b ∷ []
-    → HaveJoined (branch_ends k m xs false t f) old new
-alone_joined k m xs t f b inlets inlets' old new i is o n =
+    → places b.first b.step b.count ≡ numbers xs → HaveJoined (branch_ends k m xs false t f) old new
+alone_joined k m xs t f b inlets inlets' old new i is o n own =
     let inlet : b.inlet ≡ stream k xs (ToBranch t) = (tail_is (sym is ∙ i ∙ one_share (stream k xs (ToBranch t)))).0 in
-    record { all = (one_joined old new (node.Branch b) n).all ∙ ap (λ y. map ends_at old ++ (BranchEnds y b.to.ends ∷ [])) inlet ∙ ap (λ y. map ends_at old ++ (BranchEnds (stream k xs (ToBranch t)) y ∷ [])) o }
+    record { all = (one_joined old new (node.Branch b) n).all ∙ (λ j. map ends_at old ++ (BranchEnds (own j) (inlet j) (o j) ∷ [])) }
 
 -- a branch that is split
 
-pub split_first : {F : Type 0} (b : Branch F) (inlets inlets' ends ends' : List (List (PlainMessage PlainVersion))) (old new : List (Node F))
-    → new ≡ old ++ node.Branch b ∷ [] → HasFirst b inlets inlets' ends ends' → WillJoin (map ends_at old ++ to_split inlets ends) new (to_replicas inlets' ends')
+pub split_first : {F : Type 0} (m count : ℕ) (b : Branch F) (inlets inlets' ends ends' : List (List (PlainMessage PlainVersion))) (old new : List (Node F))
+    → new ≡ old ++ node.Branch b ∷ [] → HasFirst m 0 count b inlets inlets' ends ends' → WillJoin (map ends_at old ++ to_split m count inlets ends) new (to_replicas m 1 count inlets' ends')
 unfolding to_split
-split_first b inlets inlets' ends ends' old new n h =
-    let later = to_replicas inlets' ends' in record {
+split_first m count b inlets inlets' ends ends' old new n h =
+    let later = to_replicas m 1 count inlets' ends' in record {
       so_far = ap (λ y. y ++ later) (one_joined old new (node.Branch b) n).all
-          ∙ append_assoc (map ends_at old) (BranchEnds b.inlet b.to.ends ∷ []) later
-          ∙ ap (λ y. map ends_at old ++ (BranchEnds b.inlet y ∷ later)) h.gives
-          ∙ ap (λ y. map ends_at old ++ to_split y (h.end ∷ ends')) (sym h.takes)
-          ∙ ap (λ y. map ends_at old ++ to_split inlets y) (sym h.first);
+          ∙ append_assoc (map ends_at old) (BranchEnds (places b.first b.step b.count) b.inlet b.to.ends ∷ []) later
+          ∙ (λ j. map ends_at old ++ (BranchEnds (h.own j) b.inlet (h.gives j) ∷ later))
+          ∙ ap (λ y. map ends_at old ++ to_split m count y (h.end ∷ ends')) (sym h.takes)
+          ∙ ap (λ y. map ends_at old ++ to_split m count inlets y) (sym h.first);
     }
 
-pub split_more : {F : Type 0} (all : List NodeEnds) (b : Branch F) (inlets inlets' ends ends' : List (List (PlainMessage PlainVersion))) (old new : List (Node F))
-    → new ≡ old ++ node.Replica b ∷ [] → HasFirst b inlets inlets' ends ends' → WillJoin all old (to_replicas inlets ends) → WillJoin all new (to_replicas inlets' ends')
+pub split_more : {F : Type 0} (all : List NodeEnds) (m i count : ℕ) (b : Branch F) (inlets inlets' ends ends' : List (List (PlainMessage PlainVersion))) (old new : List (Node F))
+    → new ≡ old ++ node.Replica b ∷ [] → HasFirst m i count b inlets inlets' ends ends'
+    → WillJoin all old (to_replicas m i count inlets ends) → WillJoin all new (to_replicas m (i + 1) count inlets' ends')
 unfolding to_replicas
-split_more all b inlets inlets' ends ends' old new n h was =
-    let later = to_replicas inlets' ends' in record {
+split_more all m i count b inlets inlets' ends ends' old new n h was =
+    let up : i + 1 ≡ suc i = omega arith in
+    let later = to_replicas m (i + 1) count inlets' ends' in record {
       so_far = ap (λ y. y ++ later) (one_joined old new (node.Replica b) n).all
-          ∙ append_assoc (map ends_at old) (ReplicaEnds b.inlet b.to.ends ∷ []) later
-          ∙ ap (λ y. map ends_at old ++ (ReplicaEnds b.inlet y ∷ later)) h.gives
-          ∙ ap (λ y. map ends_at old ++ to_replicas y (h.end ∷ ends')) (sym h.takes)
-          ∙ ap (λ y. map ends_at old ++ to_replicas inlets y) (sym h.first)
+          ∙ append_assoc (map ends_at old) (ReplicaEnds (places b.first b.step b.count) b.inlet b.to.ends ∷ []) later
+          ∙ (λ j. map ends_at old ++ (ReplicaEnds (h.own j) b.inlet (h.gives j) ∷ to_replicas m (up j) count inlets' ends'))
+          ∙ ap (λ y. map ends_at old ++ to_replicas m i count y (h.end ∷ ends')) (sym h.takes)
+          ∙ ap (λ y. map ends_at old ++ to_replicas m i count inlets y) (sym h.first)
           ∙ was.so_far;
     }
 
 pub split_done : {F : Type 0} (k : Kit F) (may : F → ℕ → PlainVersion → Type 0) (f : F) (m i count : ℕ) (todo : List F) (inlets ends : List (List (PlainMessage PlainVersion))) (more : List NodeEnds) (old new : List (Node F))
-    → AreComing k may f m i count todo inlets ends → todo ≡ [] → WillJoin (map ends_at old ++ more) new (to_replicas inlets ends) → HaveJoined more old new
+    → AreComing k may f m i count todo inlets ends → todo ≡ [] → WillJoin (map ends_at old ++ more) new (to_replicas m i count inlets ends) → HaveJoined more old new
 unfolding to_replicas shares_from
 split_done {F} k may f m i count todo inlets ends more old new h t e =
     let none : inlets ≡ [] = h.fits.takes ∙ ap (λ (y : List F). shares_from m i (length y) h.versions) t in
-    record { all = sym (append-nil (map ends_at new)) ∙ ap (λ y. map ends_at new ++ to_replicas y ends) (sym none) ∙ e.so_far }
+    record { all = sym (append-nil (map ends_at new)) ∙ ap (λ y. map ends_at new ++ to_replicas m i count y ends) (sym none) ∙ e.so_far }
 
-replicas_share : {F : Type 0} (k : Kit F) (m : ℕ) (xs : List (PlainMessage PlainApart)) (t : Touch) (f : F) (i c : ℕ)
-    → to_replicas (shares_from m i c (stream k xs (ToBranch t))) (shares_from m i c (stream k xs (FromBranch t f))) ≡ replica_ends k m xs t f i c
+replicas_share : {F : Type 0} (k : Kit F) (m : ℕ) (xs : List (PlainMessage PlainApart)) (t : Touch) (f : F) (count : ℕ) → 0 < m → length xs ≡ count → (i c : ℕ)
+    → to_replicas m i count (shares_from m i c (stream k xs (ToBranch t))) (shares_from m i c (stream k xs (FromBranch t f))) ≡ replica_ends k m xs t f i c
 unfolding to_replicas replica_ends shares_from
-replicas_share k m xs t f i zero = refl
-replicas_share k m xs t f i (suc c) = ap (λ y. ReplicaEnds (share m i (stream k xs (ToBranch t))) (share m i (stream k xs (FromBranch t f)) ∷ []) ∷ y) (replicas_share k m xs t f (suc i) c)
+replicas_share k m xs t f count lt many i zero = refl
+replicas_share k m xs t f count lt many i (suc c) = λ j.
+    ReplicaEnds (own_share m i count xs lt many j) (share m i (stream k xs (ToBranch t))) (share m i (stream k xs (FromBranch t f)) ∷ [])
+    ∷ replicas_share k m xs t f count lt many (suc i) c j
 
-split_share : {F : Type 0} (k : Kit F) (m : ℕ) (xs : List (PlainMessage PlainApart)) (t : Touch) (f : F)
-    → 0 < m → to_split (shares m (stream k xs (ToBranch t))) (shares m (stream k xs (FromBranch t f))) ≡ branch_ends k m xs true t f
+split_share : {F : Type 0} (k : Kit F) (m : ℕ) (xs : List (PlainMessage PlainApart)) (t : Touch) (f : F) (count : ℕ)
+    → 0 < m → length xs ≡ count → to_split m count (shares m (stream k xs (ToBranch t))) (shares m (stream k xs (FromBranch t f))) ≡ branch_ends k m xs true t f
 unfolding to_split shares_from
-split_share k zero xs t f lt = absurd (omega (arith, lt))
-split_share k (suc c) xs t f lt = ap (λ y. BranchEnds (share (suc c) 0 (stream k xs (ToBranch t))) (share (suc c) 0 (stream k xs (FromBranch t f)) ∷ []) ∷ y) (replicas_share k (suc c) xs t f 1 c)
+split_share k zero xs t f count lt many = absurd (omega (arith, lt))
+split_share k (suc c) xs t f count lt many = λ j.
+    BranchEnds (own_share (suc c) 0 count xs lt many j) (share (suc c) 0 (stream k xs (ToBranch t))) (share (suc c) 0 (stream k xs (FromBranch t f)) ∷ [])
+    ∷ replicas_share k (suc c) xs t f count lt many 1 c j
 
-pub split_joined : {F : Type 0} (k : Kit F) (m : ℕ) (xs : List (PlainMessage PlainApart)) (t : Touch) (f : F) (inlets ends : List (List (PlainMessage PlainVersion))) (old new : List (Node F))
-    → 0 < m → inlets ≡ shares m (stream k xs (ToBranch t)) → ends ≡ shares m (stream k xs (FromBranch t f)) → HaveJoined (to_split inlets ends) old new → HaveJoined (branch_ends k m xs true t f) old new
-split_joined k m xs t f inlets ends old new lt i e j =
-    record { all = j.all ∙ ap (λ y. map ends_at old ++ to_split y ends) i ∙ ap (λ y. map ends_at old ++ to_split (shares m (stream k xs (ToBranch t))) y) e ∙ ap (λ y. map ends_at old ++ y) (split_share k m xs t f lt) }
+pub split_joined : {F : Type 0} (k : Kit F) (m : ℕ) (xs : List (PlainMessage PlainApart)) (t : Touch) (f : F) (count : ℕ) (inlets ends : List (List (PlainMessage PlainVersion))) (old new : List (Node F))
+    → 0 < m → length xs ≡ count → inlets ≡ shares m (stream k xs (ToBranch t)) → ends ≡ shares m (stream k xs (FromBranch t f))
+    → HaveJoined (to_split m count inlets ends) old new → HaveJoined (branch_ends k m xs true t f) old new
+split_joined k m xs t f count inlets ends old new lt many i e joined =
+    record { all = joined.all ∙ (λ j. map ends_at old ++ to_split m count (i j) (e j)) ∙ ap (λ y. map ends_at old ++ y) (split_share k m xs t f count lt many) }
 
 -- the mergers
 
@@ -144,52 +153,52 @@ mergers_first m count bases outlets inlets h =
     let all : m ≡ m - 0 = omega arith in
     subst (λ c. MergersFit m 0 c count bases inlets outlets) all h
 
-pub mergers_on : {F : Type 0} (all : List NodeEnds) (base outlet : List (PlainMessage PlainApart)) (inlet : List (List (PlainMessage PlainVersion))) (bases bases' outlets outlets' : List (List (PlainMessage PlainApart))) (inlets inlets' : List (List (List (PlainMessage PlainVersion)))) (old new : List (Node F))
-    → bases ≡ base ∷ bases' → inlets ≡ inlet ∷ inlets' → outlets ≡ outlet ∷ outlets' → HaveJoined (MergerEnds base inlet outlet ∷ []) old new
-    → WillJoin all old (to_mergers bases inlets outlets) → WillJoin all new (to_mergers bases' inlets' outlets')
+pub mergers_on : {F : Type 0} (all : List NodeEnds) (m i count own : ℕ) (base outlet : List (PlainMessage PlainApart)) (inlet : List (List (PlainMessage PlainVersion))) (bases bases' outlets outlets' : List (List (PlainMessage PlainApart))) (inlets inlets' : List (List (List (PlainMessage PlainVersion)))) (old new : List (Node F))
+    → bases ≡ base ∷ bases' → inlets ≡ inlet ∷ inlets' → outlets ≡ outlet ∷ outlets' → own ≡ share_len m i count → HaveJoined (MergerEnds (places i m own) base inlet outlet ∷ []) old new
+    → WillJoin all old (to_mergers m i count bases inlets outlets) → WillJoin all new (to_mergers m (i + 1) count bases' inlets' outlets')
 unfolding to_mergers
-mergers_on all base outlet inlet bases bases' outlets outlets' inlets inlets' old new b i o j h =
-    let later = to_mergers bases' inlets' outlets' in record {
-      so_far = ap (λ y. y ++ later) j.all
-          ∙ append_assoc (map ends_at old) (MergerEnds base inlet outlet ∷ []) later
-          ∙ ap (λ y. map ends_at old ++ to_mergers y (inlet ∷ inlets') (outlet ∷ outlets')) (sym b)
-          ∙ ap (λ y. map ends_at old ++ to_mergers bases y (outlet ∷ outlets')) (sym i)
-          ∙ ap (λ y. map ends_at old ++ to_mergers bases inlets y) (sym o)
+mergers_on all m i count own base outlet inlet bases bases' outlets outlets' inlets inlets' old new b x o w joined h =
+    let up : i + 1 ≡ suc i = omega arith in
+    let later = to_mergers m (i + 1) count bases' inlets' outlets' in record {
+      so_far = ap (λ y. y ++ later) joined.all
+          ∙ append_assoc (map ends_at old) (MergerEnds (places i m own) base inlet outlet ∷ []) later
+          ∙ (λ j. map ends_at old ++ (MergerEnds (places i m (w j)) base inlet outlet ∷ to_mergers m (up j) count bases' inlets' outlets'))
+          ∙ (λ j. map ends_at old ++ to_mergers m i count (sym b j) (sym x j) (sym o j))
           ∙ h.so_far;
     }
 
 pub mergers_done : {F : Type 0} (more : List NodeEnds) (m i count : ℕ) (bases outlets : List (List (PlainMessage PlainApart))) (inlets : List (List (List (PlainMessage PlainVersion)))) (old new : List (Node F))
-    → m ≤ i → MergersFit m i (m - i) count bases inlets outlets → WillJoin (map ends_at old ++ more) new (to_mergers bases inlets outlets) → HaveJoined more old new
+    → m ≤ i → MergersFit m i (m - i) count bases inlets outlets → WillJoin (map ends_at old ++ more) new (to_mergers m i count bases inlets outlets) → HaveJoined more old new
 unfolding to_mergers shares_from
 mergers_done more m i count bases outlets inlets old new le h e =
     let had : m - i ≡ 0 = omega (arith, le) in
     let none : bases ≡ [] = h.takes ∙ ap (λ n. shares_from m i n h.coming) had in
-    record { all = sym (append-nil (map ends_at new)) ∙ ap (λ y. map ends_at new ++ to_mergers y inlets outlets) (sym none) ∙ e.so_far }
+    record { all = sym (append-nil (map ends_at new)) ∙ ap (λ y. map ends_at new ++ to_mergers m i count y inlets outlets) (sym none) ∙ e.so_far }
 
-mergers_share : {F : Type 0} (k : Kit F) (m : ℕ) (s : PlainStage F) (xs : List (PlainMessage PlainApart)) (i c : ℕ)
-    → to_mergers (shares_from m i c (stream k xs (ToMergers s.parts.touches))) (columns_from m i c (came_from k s.parts.touches s.branches xs)) (shares_from m i c (stream k xs (Behind s))) ≡ merger_ends k m s xs i c
+mergers_share : {F : Type 0} (k : Kit F) (m : ℕ) (s : PlainStage F) (xs : List (PlainMessage PlainApart)) (count : ℕ) → 0 < m → length xs ≡ count → (i c : ℕ)
+    → to_mergers m i count (shares_from m i c (stream k xs (ToMergers s.parts.touches))) (columns_from m i c (came_from k s.parts.touches s.branches xs)) (shares_from m i c (stream k xs (Behind s))) ≡ merger_ends k m s xs i c
 unfolding to_mergers merger_ends shares_from columns_from
-mergers_share k m s xs i zero = refl
-mergers_share k m s xs i (suc c) =
-    ap (λ y. MergerEnds (share m i (stream k xs (ToMergers s.parts.touches))) (map (share m i) (came_from k s.parts.touches s.branches xs)) (share m i (stream k xs (Behind s))) ∷ y) (mergers_share k m s xs (suc i) c)
+mergers_share k m s xs count lt many i zero = refl
+mergers_share k m s xs count lt many i (suc c) = λ j.
+    MergerEnds (own_share m i count xs lt many j) (share m i (stream k xs (ToMergers s.parts.touches))) (map (share m i) (came_from k s.parts.touches s.branches xs)) (share m i (stream k xs (Behind s)))
+    ∷ mergers_share k m s xs count lt many (suc i) c j
 
 -- the whole stage
 
-pub on_edges : {F S : Type 0} (k : Kit F) (may : F → ℕ → PlainVersion → Type 0) (m : ℕ) (s : PlainStage F) (xs : List (PlainMessage PlainApart)) (b : Branches F) (w : WiredStage F S) (bases outlets : List (List (PlainMessage PlainApart))) (inlets : List (List (List (PlainMessage PlainVersion)))) (ordered : List (Node F))
-    → AreWired k may s.parts.touches s.branches m xs b → w.dealer.to.ends.versions ≡ b.versions → w.dealer.to.ends.bases ≡ shares m (stream k xs (ToMergers s.parts.touches)) → w.next ≡ shares m (stream k xs (Behind s))
-    → AreBehind b.nodes.items ordered → HaveJoined (to_mergers bases inlets outlets) ordered w.nodes.items
+pub on_edges : {F S : Type 0} (k : Kit F) (may : F → ℕ → PlainVersion → Type 0) (m count : ℕ) (s : PlainStage F) (xs : List (PlainMessage PlainApart)) (b : Branches F) (w : WiredStage F S) (bases outlets : List (List (PlainMessage PlainApart))) (inlets : List (List (List (PlainMessage PlainVersion)))) (ordered : List (Node F))
+    → 0 < m → length xs ≡ count → AreWired k may s.parts.touches s.branches m xs b
+    → w.dealer.to.ends.versions ≡ b.versions → w.dealer.to.ends.bases ≡ shares m (stream k xs (ToMergers s.parts.touches)) → w.next ≡ shares m (stream k xs (Behind s))
+    → AreBehind b.nodes.items ordered → HaveJoined (to_mergers m 0 count bases inlets outlets) ordered w.nodes.items
     → bases ≡ shares m (stream k xs (ToMergers s.parts.touches)) → inlets ≡ columns m (came_from k s.parts.touches s.branches xs) → outlets ≡ shares m (stream k xs (Behind s))
     → IsOnEdges k m s xs w
-on_edges k may m s xs b w bases outlets inlets ordered h v own next order joined base come gives = record {
+on_edges k may m count s xs b w bases outlets inlets ordered lt many h v own next order joined base come gives = record {
   split = h.split;
   each = h.each;
   versions = v ∙ h.fans;
   bases = own;
   nodes = joined.all
-      ∙ ap (λ y. y ++ to_mergers bases inlets outlets) (order.all ∙ ap replicas_behind h.on)
-      ∙ ap (λ y. replicas_behind (branches_ends k m xs h.split s.parts.touches s.branches) ++ to_mergers y inlets outlets) base
-      ∙ ap (λ y. replicas_behind (branches_ends k m xs h.split s.parts.touches s.branches) ++ to_mergers (shares m (stream k xs (ToMergers s.parts.touches))) y outlets) come
-      ∙ ap (λ y. replicas_behind (branches_ends k m xs h.split s.parts.touches s.branches) ++ to_mergers (shares m (stream k xs (ToMergers s.parts.touches))) (columns m (came_from k s.parts.touches s.branches xs)) y) gives
-      ∙ ap (λ y. replicas_behind (branches_ends k m xs h.split s.parts.touches s.branches) ++ y) (mergers_share k m s xs 0 m);
+      ∙ ap (λ y. y ++ to_mergers m 0 count bases inlets outlets) (order.all ∙ ap replicas_behind h.on)
+      ∙ (λ j. replicas_behind (branches_ends k m xs h.split s.parts.touches s.branches) ++ to_mergers m 0 count (base j) (come j) (gives j))
+      ∙ ap (λ y. replicas_behind (branches_ends k m xs h.split s.parts.touches s.branches) ++ y) (mergers_share k m s xs count lt many 0 m);
   next = next;
 }

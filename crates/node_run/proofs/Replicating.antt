@@ -57,7 +57,7 @@ may_share k may f h m (suc i) p (x ∷ xs) lt all =
     let later : MayTakeAll k may f (suc p) xs = subst (λ g. MayTakeAll k may g (suc p) xs) (moved_same k f h x) all.1 in
     subst (λ n. MayTakeEach k may m f n (share m i xs)) next (may_share k may f h m i (suc p) xs lt later)
 
-few_numbers : (m i own count : ℕ) → m ≤ 16 → i < m → own ≤ count → count < 65537 → i + own * m ≤ 4294967295
+pub few_numbers : (m i own count : ℕ) → m ≤ 16 → i < m → own ≤ count → count < 65537 → i + own * m ≤ 4294967295
 few_numbers m i own count few lt le small =
     let most : own * m ≤ 65536 * m = mul-le-mul_right m (omega (arith, le, small)) in
     over (own * m) most

@@ -7,6 +7,8 @@ use Rattle.packet_messages.specs.Messages.{PlainMessage, first, front, rest, tur
 use Rattle.packet_messages.specs.Turns.{share, share_len, shares_from, shares, columns_from}
 use Rattle.packet_messages.proofs.Turning.{last_share, first_share, turned_shares, one_share, share_long}
 use Rattle.stage_nodes.specs.Dues.{ComesFrom}
+use Rattle.stage_nodes.specs.Turns.{places}
+use Rattle.node_run.specs.Edges.{numbers}
 use Rattle.node_run.specs.Nodes.{in_turn}
 
 -- links that share a stream give it back when they are asked in turn
@@ -95,3 +97,20 @@ shared_by m zero (suc n) lt less =
 shared_by m (suc i) (suc n) lt less =
     let e : n - i - 1 ≡ suc n - suc i - 1 = omega arith in
     shared_by m i n lt (omega (arith, less)) ∙ ap (λ y. y / m + 1) e
+
+-- a share of the numbers of packets: each is as far from the one before as there are links
+share_places : (m i p n : ℕ) → 0 < m → share m i (places p 1 n) ≡ places (p + i) m (share_len m i n)
+unfolding share share_len places
+share_places m i p zero lt = refl
+share_places m zero p (suc n) lt =
+    let here : p ≡ p + 0 = omega arith in
+    let next : p + 1 + pred m ≡ p + 0 + m = omega (arith, lt) in
+    (λ j. here j ∷ share_places m (pred m) (p + 1) n lt j) ∙ ap (λ y. (p + 0) ∷ places y m (share_len m (pred m) n)) next
+share_places m (suc i) p (suc n) lt =
+    let next : p + 1 + i ≡ p + suc i = omega arith in
+    share_places m i (p + 1) n lt ∙ ap (λ y. places y m (share_len m i n)) next
+
+pub own_share : (m i count : ℕ) (xs : List (PlainMessage PlainApart)) → 0 < m → length xs ≡ count → places i m (share_len m i count) ≡ share m i (numbers xs)
+own_share m i count xs lt many =
+    let here : i ≡ 0 + i = omega arith in
+    (λ j. places (here j) m (share_len m i (sym many j))) ∙ sym (share_places m i 0 (length xs) lt)

@@ -64,7 +64,7 @@ rows_length [] columns = refl
 rows_length (b ∷ bases) columns = ap suc (rows_length bases (map rest columns))
 
 merger_owed : (m : Merger) → merger_ready m → MergerOwes m
-merger_owed m r = (record { many = ap length r.2.gives ∙ rows_length m.base m.inlets ∙ r.2.many; due = λ w. r.2 }, r.1)
+merger_owed m r = (record { many = ap length r.2.gives ∙ rows_length m.base m.inlets ∙ r.2.many; due = λ w. r.2 }, r.1, r.3)
 
 pub ready_going : {F : Type 0} (k : Kit F) (may : F → ℕ → PlainVersion → Type 0) (n : Node F) → is_ready k may n → is_going k may n
 ready_going k may (node.Dealer d) r = r.2

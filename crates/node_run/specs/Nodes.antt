@@ -1,5 +1,5 @@
 -- For proofs: what a node needs, and what it gives back.
-use Rattle.std.specs.Prelude.{◌≡◌, ◌+◌, ℕ, zero, suc, List, [], ◌∷◌, All, Option, Some, None, false}
+use Rattle.std.specs.Prelude.{◌≡◌, ◌≤◌, ◌+◌, ◌*◌, ◌==◌, ℕ, Bool, true, zero, suc, List, [], ◌∷◌, All, Option, Some, None, false}
 use Rattle.packet_fields.specs.declared.field.Field.{Field}
 use Rattle.packet_version.specs.Tallies.{count_of, raised}
 use Rattle.packet_version.specs.Splitting.{PlainApart}
@@ -28,7 +28,7 @@ abbrev pub branch_ready : {F : Type 0} → Kit F → (F → ℕ → PlainVersion
 branch_ready k may b = (b.to.short ≡ false) × BranchDue k may b.step b.first b.count (left k b.work b.inlet) false b.work b.inlet b.to.ends
 
 abbrev pub merger_ready : mergers.Merger → Type 0
-merger_ready m = (m.to.short ≡ false) × (m.row.items ≡ []) × MergerDue m.count m.base m.inlets m.to.ends
+merger_ready m = (m.to.short ≡ false) × (m.row.items ≡ []) × MergerDue m.count m.base m.inlets m.to.ends × (m.first + m.count * m.step ≤ 4294967295)
 
 abbrev pub is_ready : {F : Type 0} → Kit F → (F → ℕ → PlainVersion → Type 0) → Node F → Type 0
 is_ready k may (Dealer d) = dealer_ready d
@@ -42,6 +42,13 @@ is_going k may (Dealer d) = DealerDue ComesFrom d.parts d.count (in_turn d.count
 is_going {F} k may (Branch b) = (end : F) × BranchOwes k may end b
 is_going {F} k may (Replica b) = (end : F) × BranchOwes k may end b
 is_going k may (Merger m) = MergerOwes m
+
+-- the next packet of a node has this number in the burst; a dealer takes all packets
+abbrev pub has_next : {F : Type 0} → Node F → ℕ → Bool
+has_next (Dealer d) packet = true
+has_next (Branch b) packet = b.first == packet
+has_next (Replica b) packet = b.first == packet
+has_next (Merger m) packet = m.first == packet
 
 -- a node whose turns show that it hasn't run out of memory so far
 abbrev pub is_ample : {F : Type 0} → Node F → Type 0

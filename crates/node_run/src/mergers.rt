@@ -1,6 +1,7 @@
 //! The mergers of a stage, with their links and their ends from the branches.
-ghost use Rattle.std.specs.Prelude.{◌<◌, ℕ, List, [], ◌∷◌, OnOk};
+ghost use Rattle.std.specs.Prelude.{◌<◌, ◌≤◌, ℕ, List, [], ◌∷◌, OnOk};
 ghost use Rattle.packet_fields.specs.declared.field.Field.{Field};
+ghost use Rattle.stage_nodes.specs.Turns.{places};
 ghost use Rattle.node_run.specs.Nodes.{AreNodes, merger_ready};
 ghost use Rattle.node_run.specs.Edges.{HaveJoined, NodeEnds.MergerEnds, to_mergers};
 ghost use Rattle.node_run.specs.Wired.{MergersFit};
@@ -24,9 +25,11 @@ pub(crate) fn wire_mergers<F: BranchWork + Drop>(
     nodes: &mut Vec<Node<F>>,
 ) -> Result<(), AllocError>
     requires some { 0 < mergers }
+    requires few_mergers { mergers ≤ 16 }
+    requires few { count < 65537 }
     requires fits { MergersFit mergers 0 mergers count bases inlets.items outlets }
     ensures nodes { OnOk result ((fs : List F) (c : Field → ℕ) → AreNodes F.kit F.may nodes.old.items fs c → AreNodes F.kit F.may nodes.new.items fs c) }
-    ensures joined { OnOk result (HaveJoined (to_mergers bases inlets.items outlets) nodes.old.items nodes.new.items) }
+    ensures joined { OnOk result (HaveJoined (to_mergers mergers 0 count bases inlets.items outlets) nodes.old.items nodes.new.items) }
 {
     let mut bases = bases;
     let mut inlets = inlets;
@@ -57,7 +60,9 @@ fn push_merger<F: BranchWork + Drop>(
 ) -> Result<(), AllocError>
     requires { merger_ready merger }
     ensures nodes { OnOk result ((fs : List F) (c : Field → ℕ) → AreNodes F.kit F.may nodes.old.items fs c → AreNodes F.kit F.may nodes.new.items fs c) }
-    ensures joined { OnOk result (HaveJoined (MergerEnds merger.base merger.inlets merger.to.ends ∷ []) nodes.old.items nodes.new.items) }
+    ensures joined { OnOk result (HaveJoined
+        (MergerEnds (places merger.first merger.step merger.count) merger.base merger.inlets merger.to.ends ∷ [])
+        nodes.old.items nodes.new.items) }
 {
     nodes.push(Node::Merger(merger))?;
     Ok(())

@@ -1,5 +1,6 @@
 //! A node of any kind.
-ghost use Rattle.node_run.specs.Nodes.{HasTurned, Keeps, is_going};
+ghost use Rattle.std.specs.Prelude.{◌≡◌};
+ghost use Rattle.node_run.specs.Nodes.{HasTurned, Keeps, has_next, is_going};
 
 use nfp_outside::Gate;
 use packet_messages::Inlets;
@@ -28,7 +29,9 @@ pub(crate) struct Done<F> {
 }
 
 /// Is the packet with this number in the burst the next one of a node?
-pub(crate) fn is_next<F>(node: &Node<F>, packet: u32) -> bool {
+pub(crate) fn is_next<F>(node: &Node<F>, packet: u32) -> bool
+    ensures { result ≡ has_next node.now packet }
+{
     match node {
         Node::Dealer(_) => true,
         Node::Branch(branch) => branch.first == packet,

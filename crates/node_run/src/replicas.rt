@@ -87,7 +87,7 @@ fn push_replicas<F: BranchWork + Drop>(
     requires few { count < 65537 }
     requires fits { (versions : List (PlainMessage PlainVersion)) × ReplicasFit F.kit F.may work mergers 0 mergers count versions inlets ends }
     ensures nodes { OnOk result ((fs : List F) (c : Field → ℕ) → AreNodes F.kit F.may nodes.old.items fs c → AreNodes F.kit F.may nodes.new.items (fs ++ work ∷ []) c) }
-    ensures joined { OnOk result (HaveJoined (to_split inlets ends) nodes.old.items nodes.new.items) }
+    ensures joined { OnOk result (HaveJoined (to_split mergers count inlets ends) nodes.old.items nodes.new.items) }
 {
     let mut inlets = inlets;
     let mut ends = ends;
@@ -127,7 +127,7 @@ fn replica_at<F: BranchWork + Drop>(
     requires fits { (versions : List (PlainMessage PlainVersion)) × (c : ℕ) × ReplicasFit F.kit F.may work mergers merger (suc c) count versions inlets.old ends.old }
     ensures ready { IfOk result (λ b. branch_ready F.kit F.may b) }
     ensures work { IfOk result (λ b. left F.kit b.work b.inlet ≡ work) }
-    ensures first { IfOk result (λ b. HasFirst b inlets.old inlets.new ends.old ends.new) }
+    ensures first { IfOk result (λ b. HasFirst mergers merger count b inlets.old inlets.new ends.old ends.new) }
     ensures on { OnOk result ((versions : List (PlainMessage PlainVersion)) (c : ℕ) → ReplicasFit F.kit F.may work mergers merger (suc c) count versions inlets.old ends.old →
         ReplicasFit F.kit F.may work mergers (merger + 1) c count versions inlets.new ends.new) }
 {

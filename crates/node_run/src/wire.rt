@@ -32,8 +32,10 @@ pub struct WiredStage<F, S> {
 
 /// The nodes of a stage, to which `count` packets come from the source.
 ///
-/// `D.due` are these packets. `edges` says which nodes the stage has, and what is due on every end of every link and
-/// board of the stage: the `stream` of its edge, or the share of it that belongs to one merger. An end gives and takes
+/// `D.due` are these packets. `edges` says which nodes the stage has, which of the packets each takes, and what is due on
+/// every end of every link and board of the stage: the `stream` of its edge, or the share of it that belongs to one
+/// merger. A merger takes each packet whose number leaves the merger's place when divided by the number of mergers, and
+/// so does a replica of a branch; the one node of a branch takes all. An end gives and takes
 /// only a message that fits the first that is due on it (`packet_messages`): that one, or the word that memory ran out.
 /// So every message on a link or a board of a stage that runs fits the one due there. Which of the ends belong to one
 /// link or board is not stated.

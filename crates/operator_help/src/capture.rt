@@ -108,6 +108,8 @@ const JOINED: &str =
 
 const LED: &str = "the records before it went through the chains; OUT and REPORT have them";
 
+const TOLD: &str = "the records before it went through the chains; REPORT has what decided on them";
+
 const COUNTED: &str = "the records before it are counted; OUT has their flows";
 
 const BSD: &str = "what was captured at the loopback interface of BSD or macOS";
@@ -145,8 +147,10 @@ pub struct Captured<'a> {
 /// What a capture is read for.
 #[derive(Clone, Copy)]
 pub enum Purpose {
-    /// Its packets go through chains.
+    /// Its packets go through chains, and those that pass are written.
     Chains,
+    /// Its packets go through chains, and what decided on them is reported.
+    Why,
     /// Its flows are counted.
     Flows,
 }
@@ -212,6 +216,7 @@ fn say_joined(page: &mut Page, record: u32, length: u32) {
 fn done_of(purpose: Purpose) -> &'static str {
     match purpose {
         Purpose::Chains => LED,
+        Purpose::Why => TOLD,
         Purpose::Flows => COUNTED,
     }
 }
@@ -268,6 +273,7 @@ fn unpacked_by(sign: Sign) -> &'static str {
 fn place_of_policy(purpose: Purpose) -> &'static str {
     match purpose {
         Purpose::Chains => "the policy stands first, as in `nfp run POLICY CAPTURE OUT REPORT`",
+        Purpose::Why => "the policy stands first, as in `nfp why POLICY CAPTURE REPORT`",
         Purpose::Flows => "flows are counted without a policy, as by `nfp flows CAPTURE OUT`",
     }
 }

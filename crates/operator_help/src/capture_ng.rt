@@ -1,10 +1,15 @@
 //! What is wrong with a pcapng capture, and how to get one that is read.
 
-use crate::capture::{CUSTOM, Captured, OTHERWISE, has_cure, say_cure, say_link, tell_twice};
+use crate::capture::{
+    CUSTOM, Captured, OTHERWISE, Purpose, has_cure, say_cure, say_link, tell_twice,
+};
 use crate::page::Page;
 use pcapng_io::NgFault;
 
 const DONE: &str = "what stood before it went through the chains; OUT and REPORT have it";
+
+const TOLD: &str =
+    "what stood before it went through the chains; REPORT has what decided on its packets";
 
 const CUT: &str = "{} ends inside block {}: it was copied in part, or is still being written";
 
@@ -58,7 +63,7 @@ pub fn fault(page: &mut Page, capture: Captured<'_>, fault: NgFault) {
         page.name(name);
     }
     if has_done(&fault) {
-        page.tell(DONE);
+        page.tell(done_of(capture.purpose));
     }
 }
 
@@ -101,6 +106,14 @@ fn bad_interface(page: &mut Page, name: &str, kind: u32) {
         page.number(u64::from(kind));
         page.name(name);
         say_cure(page, ONE_FILE, kind);
+    }
+}
+
+// What became of what stood before the fault.
+fn done_of(purpose: Purpose) -> &'static str {
+    match purpose {
+        Purpose::Why => TOLD,
+        Purpose::Chains | Purpose::Flows => DONE,
     }
 }
 

@@ -47,6 +47,13 @@ const RUN: &Form = &Form {
     options: &[b"--mergers", b"--burst", b"--merge", b"--graph"],
 };
 
+const WHY: &Form = &Form {
+    command: "why",
+    names: &["POLICY", "CAPTURE", "REPORT"],
+    said: "POLICY CAPTURE REPORT",
+    options: &[b"--record"],
+};
+
 const PLAN: &Form = &Form {
     command: "plan",
     names: &["POLICY"],
@@ -68,7 +75,7 @@ const DEMO: &Form = &Form {
     options: &[b"--mergers", b"--burst", b"--merge"],
 };
 
-const FORMS: &[&Form] = &[RUN, PLAN, FLOWS, DEMO];
+const FORMS: &[&Form] = &[RUN, WHY, PLAN, FLOWS, DEMO];
 
 /// Reports the first word after a command that doesn't fit, or what is missing.
 pub fn misfit(page: &mut Page, words: &[String]) {

@@ -4,8 +4,19 @@ pub use crate::given::misfit;
 use crate::page::Page;
 use crate::release::VERSION;
 
-const FORMS: &str =
-    "the words are one of:\n  nfp run POLICY CAPTURE OUT REPORT [--mergers N] [--burst N] [--merge WAY] [--graph NAME] [--sync]\n  nfp plan POLICY [--graph NAME]\n  nfp demo SEED COUNT [--mergers N] [--burst N] [--merge WAY]\n  nfp flows CAPTURE OUT [--workers N] [--burst N] [--sync]\nPOLICY and CAPTURE are read, OUT and REPORT are written anew; behind `--` each word is a name\nNAME of --graph is read too: a text of graphs written by hand, for chains of the policy\nOUT of flows has packets of NetFlow version 5, and its CAPTURE is in the classic format pcap\n--sync brings OUT and REPORT to the disk before the last line is printed\nmergers and workers are 1 to 16 (2 where it isn't said), a burst has 1 to 65536 packets (1024), WAY is inbox or board (inbox)";
+const FORMS: &str = "\
+the words are one of:
+  nfp run POLICY CAPTURE OUT REPORT [--mergers N] [--burst N] [--merge WAY] [--graph NAME] [--sync]
+  nfp why POLICY CAPTURE REPORT [--record N]
+  nfp plan POLICY [--graph NAME]
+  nfp demo SEED COUNT [--mergers N] [--burst N] [--merge WAY]
+  nfp flows CAPTURE OUT [--workers N] [--burst N] [--sync]
+POLICY and CAPTURE are read, OUT and REPORT are written anew; behind `--` each word is a name
+NAME of --graph is read too: a text of graphs written by hand, for chains of the policy
+N of --record is 1 to 4294967295: the trace of this record is printed
+OUT of flows has packets of NetFlow version 5, and its CAPTURE is in the classic format pcap
+--sync brings OUT and REPORT to the disk before the last line is printed
+mergers and workers are 1 to 16 (2 where it isn't said), a burst has 1 to 65536 packets (1024), WAY is inbox or board (inbox)";
 
 const SAME_NAME: &str = "two of the files have the same name, and each is to be a file of its own";
 

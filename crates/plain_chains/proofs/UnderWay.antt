@@ -28,6 +28,7 @@ led front trace t = record { pieces = front ++ t.pieces; fate = t.fate; trace = 
 pub record IsUnderWay {P F : Type 0} (part_of : P → Piece F) (b : Behaviour F) (d : Deciding F) (time : ℕ) (first : List P) (entered : List ℕ) (begun : Trace) (i : ℕ)
     (now : List P) (position : ℕ) (frame : List ℕ) (trace : Trace) : Type 0 where
   pub same : led (map part_of (take i now)) trace (long_traced b d time position (map part_of (drop i now)) frame) ≡ led [] begun (long_traced b d time 1 (map part_of first) entered)
+  pub from_one : 1 ≤ position
   pub few : position + sum_by count_of (map part_of (drop i now)) ≤ 65
   pub size : length now ≡ length first
 
@@ -51,7 +52,7 @@ around now i y inside = set_split now i y inside ∙ ap (λ n. take i now ++ y �
 
 module _ {P F : Type 0} (part_of : P → Piece F) (b : Behaviour F) (d : Deciding F) (time : ℕ) (first : List P) (entered : List ℕ) (begun : Trace) where
   pub walk_begins : sum_by count_of (map part_of first) ≤ 64 → IsUnderWay part_of b d time first entered begun 0 first 1 entered begun
-  walk_begins few = record { same = refl; few = omega (arith, few); size = refl }
+  walk_begins few = record { same = refl; from_one = omega arith; few = omega (arith, few); size = refl }
 
   -- the rest begins with the part that is reached
   reached : (i : ℕ) (now : List P) (e : P) → i < length now → map part_of (drop i now) ≡ part_of (get_or now i e) ∷ map part_of (drop (i + 1) now)
@@ -61,6 +62,10 @@ module _ {P F : Type 0} (part_of : P → Piece F) (b : Behaviour F) (d : Decidin
       position + count_of (part_of (get_or now i e)) ≤ 65
   part_is_small i now position frame trace e way inside =
       omega (arith, way.few, ap (sum_by count_of) (reached i now e inside), sum_by-cons count_of (part_of (get_or now i e)) (map part_of (drop (i + 1) now)))
+
+  pub count_is_small : (i : ℕ) (now : List P) (position : ℕ) (frame : List ℕ) (trace : Trace) (e : P) → IsUnderWay part_of b d time first entered begun i now position frame trace → i < length now →
+      count_of (part_of (get_or now i e)) ≤ 64
+  count_is_small i now position frame trace e way inside = omega (arith, part_is_small i now position frame trace e way inside, way.from_one)
 
   pub walk_goes_on : (i : ℕ) (now : List P) (position : ℕ) (frame next : List ℕ) (trace after : Trace) (e y : P) → IsUnderWay part_of b d time first entered begun i now position frame trace → i < length now →
       IsLed b d time position frame (part_of (get_or now i e)) (part_of y) (Out next) trace after →
@@ -81,6 +86,7 @@ module _ {P F : Type 0} (part_of : P → Piece F) (b : Behaviour F) (d : Decidin
             ∙ ap (led (map part_of (take i now)) trace) (sym (goes_out b d time position (part_of x) (map part_of (drop (i + 1) now)) frame next (sym turn.ends)))
             ∙ ap (λ (l : List (Piece F)). led (map part_of (take i now)) trace (long_traced b d time position l frame)) (sym (reached i now e inside))
             ∙ way.same;
+        from_one = omega (arith, way.from_one);
         few = omega (arith, way.few, ap (sum_by count_of) (reached i now e inside), sum_by-cons count_of (part_of x) (map part_of (drop (i + 1) now)), ap (λ l. sum_by count_of (map part_of l)) later);
         size = length-set now i y ∙ way.size;
       }

@@ -1,0 +1,7 @@
+pub mod Counted
+pub mod CutSoFar
+pub mod Joined
+pub mod Joining
+pub mod Profiled
+pub mod Shown
+pub mod Taking

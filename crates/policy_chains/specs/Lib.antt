@@ -1,7 +1,11 @@
+pub mod Cutting
 pub mod Fates
 pub mod NamedFunctionLaws
 pub mod NamedFunctions
 pub mod NamedNotes
 pub mod Parts
+pub mod Profiled
 pub mod Services
+pub mod Shown
 pub mod StateRows
+pub mod Taking

@@ -72,7 +72,7 @@ one_step_more n step =
     let e : suc n ≡ n + 1 = omega arith in
     ap (λ m. m * step) e ∙ add-mul n 1 step ∙ omega arith
 
-next_few : (step p n : ℕ) → p + suc n * step ≤ 4294967295 → (p + step) + n * step ≤ 4294967295
+pub next_few : (step p n : ℕ) → p + suc n * step ≤ 4294967295 → (p + step) + n * step ≤ 4294967295
 next_few step p n le = over (suc n * step) (n * step) (one_step_more n step) le
   where
     over : (a b : ℕ) → a ≡ step + b → p + a ≤ 4294967295 → (p + step) + b ≤ 4294967295

@@ -5,5 +5,6 @@ mod Branching
 mod Dealing
 mod Gathering
 mod Merging
+mod Places
 mod Rows
 mod Sweeps

@@ -1,5 +1,5 @@
 -- For proofs: a node before and after one packet.
-use Rattle.std.specs.Prelude.{◌≡◌, ℕ, suc, List, [], ◌∷◌, length, map, All, Bool, false, if◌then◌else◌, Option, Some, None, is_none}
+use Rattle.std.specs.Prelude.{◌≡◌, ◌≤◌, ◌+◌, ◌*◌, ℕ, zero, suc, List, [], ◌∷◌, length, map, All, Bool, false, if◌then◌else◌, Option, Some, None, is_none}
 use Rattle.std.specs.List.{list_any}
 use Rattle.packet_fields.specs.declared.field.Field.{Field}
 use Rattle.action_profile.specs.declared.parts.StageParts.{StageParts}
@@ -20,6 +20,12 @@ use Rattle.stage_nodes.specs.declared.dealer.Dealer as dealers
 use Rattle.stage_nodes.specs.declared.merger.Merger as mergers
 use Rattle.stage_nodes.specs.declared.given.Given.{Given}
 use Rattle.stage_nodes.specs.declared.given.Given.TheVariants.{Row, Word}
+
+-- The packets of a burst that a node takes, by their numbers, counted from 0: this number of them, the packet `first`
+-- and each other `step` places after the one before.
+unfoldable pub places : ℕ → ℕ → ℕ → List ℕ
+places first step zero = []
+places first step (suc count) = first ∷ places (first + step) step count
 
 -- something is still to come from a dealer's supply
 abbrev pub HasMore : {S : Type 0} → (S → List (PlainMessage PlainApart) → Type 0) → S → Type 0
@@ -103,4 +109,4 @@ abbrev pub BranchOwes : {F : Type 0} → Kit F → (F → ℕ → PlainVersion �
 BranchOwes k may end b = BranchDue k may b.step b.first b.count end b.to.short b.work b.inlet b.to.ends
 
 abbrev pub MergerOwes : mergers.Merger → Type 0
-MergerOwes m = MergerAt m.count m.to.short m.base m.inlets m.to.ends × (m.row.items ≡ [])
+MergerOwes m = MergerAt m.count m.to.short m.base m.inlets m.to.ends × (m.row.items ≡ []) × (m.first + m.count * m.step ≤ 4294967295)

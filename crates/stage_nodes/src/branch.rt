@@ -1,10 +1,10 @@
 //! The node of a branch.
-ghost use Rattle.std.specs.Prelude.{◌≡◌, ◌+◌, ◌-◌, ℕ, suc, false};
+ghost use Rattle.std.specs.Prelude.{◌≡◌, ◌<◌, ◌+◌, ◌-◌, ◌∷◌, ℕ, suc, false};
 ghost use Rattle.packet_messages.specs.Messages.{is_short, plain};
 ghost use Rattle.stage_nodes.specs.Streams.{gave, left, moved};
 ghost use Rattle.stage_nodes.specs.Flows.{MayTake};
 ghost use Rattle.stage_nodes.specs.Dues.{BranchDue, NothingOwed};
-ghost use Rattle.stage_nodes.specs.Turns.{BranchOwes, BranchReady};
+ghost use Rattle.stage_nodes.specs.Turns.{BranchOwes, BranchReady, places};
 
 use crate::giving::Giving;
 use crate::to_mergers::ToMergers;
@@ -49,12 +49,16 @@ pub fn run_branch<F: BranchWork, R: Wait, G: Gate>(
 }
 
 impl<F: BranchWork> Branch<F> {
-    /// The next version, if one is still to come. What the branch owes in the end stays the same.
+    /// The next version, of the packet `first`, if one is still to come. What the branch owes in the end stays the same.
     pub fn turn<R: Wait, G: Gate>(&mut self, rt: &R, alloc: Global, gate: &G)
         requires ready { (end : F) × BranchOwes F.kit F.may end self.old }
         ensures owes { (end : F) → BranchOwes F.kit F.may end self.old → BranchOwes F.kit F.may end self.new }
         ensures ample { self.new.to.short ≡ false → self.old.to.short ≡ false }
         ensures count { self.new.count ≡ self.old.count - 1 }
+        ensures apart { self.new.step ≡ self.old.step }
+        ensures step { 0 < self.old.count → self.new.first ≡ self.old.first + self.old.step }
+        ensures packets { 0 < self.old.count → places self.old.first self.old.step self.old.count
+            ≡ self.old.first ∷ places self.new.first self.new.step self.new.count }
     {
         if self.count == 0 {
             return;

@@ -1,10 +1,10 @@
 //! The node of a merger.
-ghost use Rattle.std.specs.Prelude.{◌≡◌, ◌<◌, ◌-◌, ◌^◌, [], ℕ, suc, false, length, map};
+ghost use Rattle.std.specs.Prelude.{◌≡◌, ◌<◌, ◌+◌, ◌-◌, ◌^◌, ◌∷◌, [], ℕ, suc, false, length, map};
 ghost use Rattle.std.specs.List.{list_any};
 ghost use Rattle.merge_ops.specs.Merging.{is_short as is_lost};
 ghost use Rattle.packet_messages.specs.Messages.{Fits, PlainMessage.Nil, first, is_short, plain, rest};
 ghost use Rattle.stage_nodes.specs.Streams.{of_merged};
-ghost use Rattle.stage_nodes.specs.Turns.{BelongTo, MergerAt, MergerOwes, joined_row};
+ghost use Rattle.stage_nodes.specs.Turns.{BelongTo, MergerAt, MergerOwes, joined_row, places};
 
 use crate::from_branches::FromBranches;
 use crate::giving::Giving;
@@ -43,12 +43,16 @@ pub fn run_merger<R: Wait>(rt: &R, alloc: Global, merger: &mut Merger)
 }
 
 impl Merger {
-    /// The next packet, if one is still to come.
+    /// The next packet, which has the number `first` in the burst, if one is still to come.
     pub fn turn<R: Wait>(&mut self, rt: &R, alloc: Global)
         requires ready { MergerOwes self.old }
         ensures owes { MergerOwes self.new }
         ensures ample { self.new.to.short ≡ false → self.old.to.short ≡ false }
         ensures count { self.new.count ≡ self.old.count - 1 }
+        ensures apart { self.new.step ≡ self.old.step }
+        ensures step { 0 < self.old.count → self.new.first ≡ self.old.first + self.old.step }
+        ensures packets { 0 < self.old.count → places self.old.first self.old.step self.old.count
+            ≡ self.old.first ∷ places self.new.first self.new.step self.new.count }
     {
         if self.count == 0 {
             return;
@@ -56,7 +60,7 @@ impl Merger {
         let mut row = mem::replace(&mut self.row, Vec::new(alloc));
         self.merge_next(rt, alloc, &mut row, self.first);
         self.row = row;
-        self.first = self.first.saturating_add(self.step);
+        self.first += self.step;
         self.count -= 1;
     }
 
@@ -68,6 +72,8 @@ impl Merger {
         ensures at { (n : ℕ) → MergerAt (suc n) self.old.to.short self.old.base self.old.inlets self.old.to.ends →
             MergerAt n self.new.to.short self.new.base self.new.inlets self.new.to.ends }
         ensures ample { self.new.to.short ≡ false → self.old.to.short ≡ false }
+        ensures first { self.new.first ≡ self.old.first }
+        ensures step { self.new.step ≡ self.old.step }
         ensures count { self.new.count ≡ self.old.count }
     {
         let reply = self.reply(rt, alloc, row, packet);
@@ -91,6 +97,8 @@ impl Merger {
         ensures taken { is_short (plain result) ≡ false → (self.new.base ≡ rest self.old.base) × (self.new.inlets ≡ map rest self.old.inlets) }
         ensures outlet { self.new.to.ends ≡ self.old.to.ends }
         ensures stays { self.new.to.short ≡ self.old.to.short }
+        ensures first { self.new.first ≡ self.old.first }
+        ensures step { self.new.step ≡ self.old.step }
         ensures count { self.new.count ≡ self.old.count }
     {
         let short = self.to.is_short();

@@ -2,11 +2,10 @@
 use Rattle.std.proofs.Common.{◌≡◌, ◌∙◌, ℕ, List, [], ◌∷◌, Option, Some, None, ap, refl}
 use Rattle.std.specs.Prelude.{map}
 use Rattle.chain_walk.specs.Step.{Behaviour}
-use Rattle.chain_walk.specs.declared.walk.Fate.{Fate}
 use Rattle.packet_function.specs.Deciding.{Deciding}
 use Rattle.piece_walk.specs.Pieces.{Piece}
 use Rattle.service_walk.specs.Service.{Classed, at_chain, served, fates_among}
-use Rattle.traced_walk.specs.Ways.{Way, way_of, ways}
+use Rattle.traced_walk.specs.Ways.{way_of, ways}
 use Rattle.traced_walk.proofs.AsWalked.{same_long_fate}
 
 module _ {F : Type 0} (b : Behaviour F) (d : Deciding F) where

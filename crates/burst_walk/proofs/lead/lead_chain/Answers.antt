@@ -4,7 +4,7 @@ use Rattle.piece_walk.specs.Kinds.{GrowsLittle}
 use Rattle.piece_walk.specs.PiecePackets.{long_fates, pieces_after}
 use Rattle.chain_service.specs.SegmentRun.{copies_through}
 use Rattle.chain_service.specs.SegmentRunProofs.{functions_count, pieces_of}
-use Rattle.chain_service.specs.GraphRun.{packets_taken}
+use Rattle.chain_service.specs.SegmentRunProofs.{packets_taken}
 use Rattle.service_walk.specs.Service.{packets_in}
 use Rattle.policy_chains.specs.NamedFunctions.{named_behaviour}
 use Rattle.burst_walk.specs.Leading.{IsWritable, classed_items}

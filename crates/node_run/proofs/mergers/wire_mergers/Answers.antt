@@ -1,5 +1,6 @@
 use Rattle.std.proofs.Common.{◌≡◌, ◌∙◌, List, ◌∷◌, ap, refl, sym}
 use Rattle.node_run.proofs.Wiring.{merger_next}
+use Rattle.node_run.proofs.Replicating.{few_numbers}
 use Rattle.node_run.proofs.Edging.{mergers_done, mergers_first, mergers_on}
 use Rattle.node_run.proofs.mergers.wire_mergers.Goals as goal
 
@@ -20,15 +21,19 @@ pub take_first-from_branches-requires : goal.take_first-from_branches-requires
 take_first-from_branches-requires g c = (merger_next _ _ _ _ _ _ c.loop-merger-test.true c.loop-merger.invariant.0).inlets_some
 
 pub push_merger-requires : goal.push_merger-requires
-push_merger-requires g c =
-    (c.new-to.ensures.ample, c.new.ensures.items, (merger_next _ _ _ _ _ _ c.loop-merger-test.true c.loop-merger.invariant.0).due _ _ _ _ _ _ _ c.take_first-base.ensures (same_first c.take_first-outlet.ensures c.new-to.ensures.ends) c.take_first-from_branches.ensures c.share_count.ensures.share)
+push_merger-requires g c = (
+  c.new-to.ensures.ample,
+  c.new.ensures.items,
+  (merger_next _ _ _ _ _ _ c.loop-merger-test.true c.loop-merger.invariant.0).due _ _ _ _ _ _ _ c.take_first-base.ensures (same_first c.take_first-outlet.ensures c.new-to.ensures.ends) c.take_first-from_branches.ensures c.share_count.ensures.share,
+  few_numbers c.args.mergers c.loop-merger.merger c.share_count.result c.args.count c.requires.few_mergers c.loop-merger-test.true c.share_count.ensures.few c.requires.few,
+)
 
 pub loop-merger-preserved : goal.loop-merger-preserved
 loop-merger-preserved g c =
     let i = c.loop-merger.invariant in (
       (merger_next _ _ _ _ _ _ c.loop-merger-test.true i.0).on _ _ _ _ _ _ c.take_first-base.ensures c.take_first-outlet.ensures c.take_first-from_branches.ensures,
       λ fs copies old. c.in_ok-push_merger.ensures.nodes fs copies (i.1 fs copies old),
-      mergers_on _ _ _ _ _ _ _ _ _ _ _ _ c.take_first-base.ensures c.take_first-from_branches.ensures (same_first c.take_first-outlet.ensures c.new-to.ensures.ends) c.in_ok-push_merger.ensures.joined i.2,
+      mergers_on _ c.args.mergers c.loop-merger.merger c.args.count c.share_count.result _ _ _ _ _ _ _ _ _ _ _ c.take_first-base.ensures c.take_first-from_branches.ensures (same_first c.take_first-outlet.ensures c.new-to.ensures.ends) c.share_count.ensures.share c.in_ok-push_merger.ensures.joined i.2,
     )
 
 pub returns-clause-joined : goal.returns-clause-joined

@@ -13,7 +13,7 @@ loop-replica-init g c = (
   tt,
   all_coming g.F.BranchWork.kit g.F.BranchWork.may _ c.args.mergers c.args.count c.requires.fits.0 _ _ _ _ _ _ c.requires.some c.requires.replicas c.into_iter-replica-iterator.ensures.into_iter_gives.0 c.requires.fits.1 c.in_ok-first.ensures.on,
   λ fs copies old. first_added g.F.BranchWork.kit g.F.BranchWork.may c.in_ok-first.first _ _ _ fs copies c.in_ok-first.ensures.ready c.in_ok-first.ensures.work c.in_ok-push.ensures.items old,
-  split_first c.in_ok-first.first _ _ _ _ _ _ c.in_ok-push.ensures.items c.in_ok-first.ensures.first,
+  split_first c.args.mergers c.args.count c.in_ok-first.first _ _ _ _ _ _ c.in_ok-push.ensures.items c.in_ok-first.ensures.first,
 )
 
 pub replica_at-requires-in-loop-replica-clause-inside : goal.replica_at-requires-in-loop-replica-clause-inside
@@ -31,7 +31,7 @@ loop-replica-preserved g c =
       tt,
       n.on _ _ c.in_ok-other.ensures.on,
       λ fs copies old. replica_added g.F.BranchWork.kit g.F.BranchWork.may c.in_ok-other.other _ _ _ copies c.in_ok-other.ensures.ready c.in_ok-push-2.ensures.items (c.loop-replica.invariant.3 fs copies old),
-      split_more _ c.in_ok-other.other _ _ _ _ _ _ c.in_ok-push-2.ensures.items c.in_ok-other.ensures.first c.loop-replica.invariant.4,
+      split_more _ c.args.mergers c.loop-replica.merger c.args.count c.in_ok-other.other _ _ _ _ _ _ c.in_ok-push-2.ensures.items c.in_ok-other.ensures.first c.loop-replica.invariant.4,
     )
 
 pub returns-clause-nodes : goal.returns-clause-nodes

@@ -13,4 +13,4 @@ invariant-loop-replica g l =
     (goal.iterator-loop-replica g).is_finite l.replica-iterator ×
     AreComing g.F.BranchWork.kit g.F.BranchWork.may l.fn.work l.mergers l.merger l.count (into_iter_items l.replica-iterator) l.inlets l.ends ×
     ((fs : List _) (c : Field → ℕ) → AreNodes g.F.BranchWork.kit g.F.BranchWork.may l.fn.nodes.items fs c → AreNodes g.F.BranchWork.kit g.F.BranchWork.may l.nodes.items (fs ++ l.fn.work ∷ []) c) ×
-    WillJoin (map ends_at l.fn.nodes.items ++ to_split l.fn.inlets l.fn.ends) l.nodes.items (to_replicas l.inlets l.ends)
+    WillJoin (map ends_at l.fn.nodes.items ++ to_split l.mergers l.count l.fn.inlets l.fn.ends) l.nodes.items (to_replicas l.mergers l.merger l.count l.inlets l.ends)

@@ -1,4 +1,5 @@
 use Rattle.std.proofs.Common.{◌∙◌, ◌++◌, ◌∷◌, [], ap, refl}
+use Rattle.stage_nodes.specs.Turns.{places}
 use Rattle.node_run.proofs.Replicating.{inlets_some, left_same, replica_ready, replicas_on}
 use Rattle.node_run.proofs.replicas.replica_at.Goals as goal
 
@@ -22,6 +23,7 @@ returns-clause-on g c versions n fits = replicas_on g.F.BranchWork.kit g.F.Branc
 
 pub returns-clause-first : goal.returns-clause-first
 returns-clause-first g c = record {
+  own = ap (places c.args.merger c.args.mergers) c.share_count.ensures.share;
   takes = c.take_first-inlet.ensures;
   end = c.take_first.result;
   first = c.take_first.ensures;

@@ -34,6 +34,6 @@ returns g c = record {
   versions = fanned_one c.args.mergers _ _ _ _ c.requires.branch.some c.in_ok-versions.ensures.0 c.in_ok-push.ensures;
   split = true;
   fan = c.in_ok-push.ensures ∙ ap (λ y. c.args.wired.now.versions ++ y ∷ []) c.in_ok-versions.ensures.0;
-  joined = split_joined g.F.BranchWork.kit c.args.mergers g.D.LinkDue.due c.args.touch c.args.work _ _ _ _ c.requires.branch.some c.in_ok-versions.ensures.1 c.requires.branch.ends c.in_ok-push_replicas.ensures.joined;
+  joined = split_joined g.F.BranchWork.kit c.args.mergers g.D.LinkDue.due c.args.touch c.args.work c.args.count _ _ _ _ c.requires.branch.some c.requires.branch.many c.in_ok-versions.ensures.1 c.requires.branch.ends c.in_ok-push_replicas.ensures.joined;
   nodes = replicas_added g.F.BranchWork.kit g.F.BranchWork.may _ _ _ _ c.requires.replicas.nothing c.in_ok-push_replicas.ensures.nodes;
 }

@@ -31,7 +31,7 @@ returns-clause-wired g c =
 pub returns-clause-edges : goal.returns-clause-edges
 returns-clause-edges g c =
     let b = wired_by g.F.BranchWork.kit g.F.BranchWork.may _ _ _ _ _ c.in_ok-wired.wired c.in_ok-wired.ensures c.as_slice-touches.ensures in
-    on_edges g.F.BranchWork.kit g.F.BranchWork.may c.args.mergers (plain_stage c.args.work) g.D.LinkDue.due c.in_ok-wired.wired _ _ _ _ _
-    b (ap (λ (e : ToStage). e.versions) c.new-to.ensures.ends) (ap (λ (e : ToStage). e.bases) c.new-to.ensures.ends ∙ c.in_ok-bases.ensures.0) c.in_ok-from_mergers.ensures.1
+    on_edges g.F.BranchWork.kit g.F.BranchWork.may c.args.mergers c.args.count (plain_stage c.args.work) g.D.LinkDue.due c.in_ok-wired.wired _ _ _ _ _
+    c.requires.some c.requires.many b (ap (λ (e : ToStage). e.versions) c.new-to.ensures.ends) (ap (λ (e : ToStage). e.bases) c.new-to.ensures.ends ∙ c.in_ok-bases.ensures.0) c.in_ok-from_mergers.ensures.1
     c.in_ok-nodes.ensures.order c.in_ok-wire_mergers.ensures.joined
     c.in_ok-bases.ensures.1 (meets_by g.F.BranchWork.kit _ _ _ _ c.args.mergers g.D.LinkDue.due _ c.in_ok-ends.ensures c.as_slice-touches.ensures c.as_slice.ensures.value).inlets c.in_ok-from_mergers.ensures.0

@@ -1,0 +1,8 @@
+use Rattle.std.proofs.Common.{◌≡◌, map, take}
+use Rattle.std.specs.Prelude.{filter_map, slice_get}
+use Rattle.declared_lines.specs.LinesOf.{lines_of}
+use Rattle.why_account.proofs.chain.lines_in.Given as goal
+
+-- those of the positions so far
+abbrev pub invariant-positions : goal.invariant-positions
+invariant-positions l = l.lines ≡ map lines_of (filter_map (λ place. slice_get l.declared place) (take l.position-index l.positions))

@@ -1,0 +1,10 @@
+pub mod CallAnswers
+pub mod CallCauses
+pub mod EarlyEnds
+pub mod EndedRuns
+pub mod GoodWhys
+pub mod HeldBytes
+pub mod NotedLines
+pub mod Opening
+pub mod OtherSlots
+pub mod ReadBytes

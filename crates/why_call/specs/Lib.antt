@@ -1,0 +1,5 @@
+pub mod Answers
+pub mod Due
+pub mod Ending
+pub mod Ran
+pub mod Reporting
