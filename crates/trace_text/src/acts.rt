@@ -67,13 +67,10 @@ fn in_order<'a>(
 ) -> Result<Vec<&'a FunctionDecl>, AllocError>
     ensures { IfOk result (λ order. map (λ d. d.now) order.items ≡ filter_map (λ place. slice_get functions.now place) positions.now) }
 {
-    let mut order = Vec::new(alloc);
-    'positions: for position in positions {
-        if let Some(decl) = functions.get(*position as usize) {
-            order.push(decl)?;
-        }
-    }
-    Ok(order)
+    positions
+        .iter()
+        .filter_map(|place| functions.get(*place as usize))
+        .collect(alloc)
 }
 
 fn push_acts(
