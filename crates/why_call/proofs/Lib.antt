@@ -10,4 +10,4 @@ pub mod NotedLines
 pub mod Opening
 pub mod OtherSlots
 pub mod ReadBytes
-pub mod Ready
+pub mod ReadyChains

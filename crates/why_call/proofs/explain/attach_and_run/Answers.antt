@@ -22,7 +22,7 @@ returns-in-Pcap-clause-left g c =
 
 pub returns-in-Ng-clause-left : goal.returns-in-Ng-clause-left
 returns-in-Ng-clause-left g c =
-    subst (λ opened. IfSome (packets_left opened (g.D.Desk.slots c.args.desk.now Capture)) (Left c.args.service c.args.request.now.«record» (g.D.Desk.slots c.args.desk.now Report) (g.D.Desk.slots c.run_why-2.new.desk Report) c.run_why-2.result)) (sym c.in-Ng.is)
-    (subst (λ slot. IfSome (packets_left (Ng c.in-Ng.source) slot) (Left c.args.service c.args.request.now.«record» (g.D.Desk.slots c.args.desk.now Report) (g.D.Desk.slots c.run_why-2.new.desk Report) c.run_why-2.result)) (c.attach_sink.ensures.others Capture capture_is_not_report)
+    subst (λ opened. IfSome (packets_left opened (g.D.Desk.slots c.args.desk.now Capture)) (Left c.args.service c.args.request.now.«record» (g.D.Desk.slots c.args.desk.now Report) (g.D.Desk.slots c.run_why-in-Ng.new.desk Report) c.run_why-in-Ng.result)) (sym c.in-Ng.is)
+    (subst (λ slot. IfSome (packets_left (Ng c.in-Ng.source) slot) (Left c.args.service c.args.request.now.«record» (g.D.Desk.slots c.args.desk.now Report) (g.D.Desk.slots c.run_why-in-Ng.new.desk Report) c.run_why-in-Ng.result)) (c.attach_sink.ensures.others Capture capture_is_not_report)
     (led_by c.args.service Nano c.args.request.now.«record» c.args.request.now.report.now (ng_left c.in-Ng.source (g.D.Desk.slots c.attach_sink.new.desk Capture))
-    (g.D.Desk.slots c.args.desk.now) (g.D.Desk.slots c.attach_sink.new.desk) (g.D.Desk.slots c.run_why-2.new.desk) c.run_why-2.result c.in_ok-attach_sink.ensures.ok c.run_why-2.ensures.ok c.run_why-2.ensures.err))
+    (g.D.Desk.slots c.args.desk.now) (g.D.Desk.slots c.attach_sink.new.desk) (g.D.Desk.slots c.run_why-in-Ng.new.desk) c.run_why-in-Ng.result c.in_ok-attach_sink.ensures.ok c.run_why-in-Ng.ensures.ok c.run_why-in-Ng.ensures.err))

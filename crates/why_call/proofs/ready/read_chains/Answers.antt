@@ -1,5 +1,5 @@
 use Rattle.nfp_outside.specs.declared.slot.Slot.TheVariants.{Policy}
-use Rattle.why_call.proofs.Ready.{ready_of}
+use Rattle.why_call.proofs.ReadyChains.{ready_of}
 use Rattle.why_call.proofs.ready.read_chains.Goals as goal
 
 pub returns-in-Ok-make_plain-clause-ready : goal.returns-in-Ok-make_plain-clause-ready
