@@ -1,5 +1,5 @@
 -- The answer of a call after its line was put into Note.
-use Rattle.std.proofs.Common.{◌≡◌, ◌≢◌, ◌⊎◌, ◌∙◌, inl, inr, ℕ, List, [], refl, ap, rules, sym, subst}
+use Rattle.std.proofs.Common.{◌≡◌, ◌≢◌, ◌⊎◌, ◌∙◌, inl, inr, ℕ, List, refl, ap, rules, sym, subst}
 use Rattle.std.specs.Prelude.{Result}
 use Rattle.nfp_outside.specs.declared.slot.Slot.{Slot}
 use Rattle.nfp_outside.specs.declared.slot.Slot.TheVariants as slots
@@ -9,12 +9,11 @@ use Rattle.command_words.specs.WhyWords.{WhyAsked}
 use Rattle.command_words.specs.declared.usage.UsageFault.{UsageFault}
 use Rattle.call_ending.specs.Endings.{NotesLine, untold}
 use Rattle.call_ending.specs.Left.{IsFinal, LeavesPrefix, LeavesSlot, NoneRose, note_due}
-use Rattle.call_ending.specs.Notes.{read_fault_text, write_fault_text}
 use Rattle.call_ending.specs.declared.outcome.Outcome.{Outcome}
 use Rattle.call_ending.specs.declared.outcome.Outcome.TheVariants.{Done, Usage, Policy, Graph, Capture, CaptureNg, ReadFault, WriteFault, OutOfMemory}
 use Rattle.why_call.specs.Answers.{IsDue, ReadFaultCause, WhereRead, WriteFaultCause}
 use Rattle.why_call.specs.Due.{WhyDue, due_of_why}
-use Rattle.why_call.specs.Ran.{Called, EndsDue, IsFaultLine, Ran}
+use Rattle.why_call.specs.Ran.{Called, EndsDue, Ran}
 use Rattle.why_call.proofs.OtherSlots.{capture_beside, policy_beside, report_beside}
 use Rattle.why_call.proofs.ReadBytes.{if_read, read_always, read_under}
 

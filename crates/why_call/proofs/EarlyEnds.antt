@@ -1,6 +1,6 @@
 -- The state after the words were done, by the outcome.
 use Rattle.std.proofs.Common.{◌≡◌, ◌≢◌, ◌⊎◌, ◌∙◌, inl, inr, ℕ, List, [], refl, ap, sym, subst}
-use Rattle.std.specs.Prelude.{Option, Some, None, IfSome, Result, Ok, Err}
+use Rattle.std.specs.Prelude.{Some, None, Result, Ok, Err}
 use Rattle.nfp_outside.specs.declared.slot.Slot.{Slot}
 use Rattle.nfp_outside.specs.declared.slot.Slot.TheVariants as slots
 use Rattle.nfp_outside.specs.Outside.{SlotView}
@@ -266,9 +266,10 @@ told_fault refusal r is = subst (IsFaultOf refusal.fault) (sym is) refl
 
 pub policy_ran : (asked : WhyAsked) (old new : Slot → SlotView) (ending : Ending) → OnlyPolicy asked old new → EndsAtPolicy (old slots.Policy) (new slots.Policy) ending → Ran (Ok asked) old new (outcome_seen ending) (text_of ending)
 policy_ran asked old new (Refused refusal) only h = ran_by (Ok asked) old new (Policy refusal.fault) refusal.line
-    (only_stays asked old new (Policy refusal.fault) only (only_name asked old new only slots.Report report_is_not_policy))
-    ((tt, if_of (old slots.Policy).bytes _ _ (λ p is. told_fault refusal (judged p) is) h, only_name asked old new only slots.Capture capture_is_not_policy),
-    if_told (old slots.Policy).bytes _ _ (λ p is. told_always (old slots.Capture).bytes _ (refusal_due asked old new refusal (report_untouched asked old new only) p is)) (told_of (old slots.Policy).bytes _ h))
+    (only_stays asked old new (Policy refusal.fault) only (only_name asked old new only slots.Report report_is_not_policy)) (
+      (tt, if_of (old slots.Policy).bytes _ _ (λ p is. told_fault refusal (judged p) is) h, only_name asked old new only slots.Capture capture_is_not_policy),
+      if_told (old slots.Policy).bytes _ _ (λ p is. told_always (old slots.Capture).bytes _ (refusal_due asked old new refusal (report_untouched asked old new only) p is)) (told_of (old slots.Policy).bytes _ h),
+    )
 policy_ran asked old new (Stopped (ReadFault s)) only h = subst (λ x. Ran (Ok asked) old new (ReadFault x) (read_fault_text x)) (sym h.0)
     (ran_by (Ok asked) old new (ReadFault slots.Policy) (read_fault_text slots.Policy)
     (only_stays asked old new (ReadFault slots.Policy) only (only_name asked old new only slots.Report report_is_not_policy))

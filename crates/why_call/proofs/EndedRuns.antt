@@ -16,7 +16,7 @@ use Rattle.pcapng_io.specs.declared.fault.NgFault.{NgFault}
 use Rattle.pcapng_io.specs.declared.item.NgItem.{NgItem}
 use Rattle.pcapng_io.specs.declared.item.NgItem.TheVariants.{Packet, Section, Interface, Carried}
 use Rattle.pcapng_io.specs.declared.place.Place.{Place}
-use Rattle.capture_items.specs.Formats.{PacketBeside, ng_given, ng_left, ng_stream, pcap_given, pcap_left, pcap_stream}
+use Rattle.capture_items.specs.Formats.{PacketBeside, ng_given, ng_left, ng_stream, pcap_given, pcap_stream}
 use Rattle.capture_items.specs.Putting.{risen_earlier}
 use Rattle.capture_items.specs.Slots.{IsBroken}
 use Rattle.capture_items.specs.Sources.{IsOpeningFault}
@@ -40,7 +40,6 @@ use Rattle.call_ending.specs.Notes.{done_text}
 use Rattle.call_ending.specs.Reading.{IsOfFormat, LeavesAll, Opens}
 use Rattle.call_ending.specs.Results.{outcome_of}
 use Rattle.call_ending.specs.Told.{IsReadWhole, is_ng}
-use Rattle.call_ending.specs.declared.ending.Ending.{Ending}
 use Rattle.call_ending.specs.declared.ending.Ending.TheVariants.{Stopped}
 use Rattle.call_ending.specs.declared.outcome.Outcome.{Outcome}
 use Rattle.call_ending.specs.declared.outcome.Outcome.TheVariants.{Done, Usage, Policy, Graph, Capture, CaptureNg, ReadFault, WriteFault, OutOfMemory}

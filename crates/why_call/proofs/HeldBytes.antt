@@ -1,11 +1,11 @@
 -- What Report holds after something was put into it.
-use Rattle.std.proofs.Common.{◌≡◌, ◌∙◌, inl, inr, ℕ, List, [], ◌++◌, refl, ap, sym, subst, rules}
+use Rattle.std.proofs.Common.{◌≡◌, ◌∙◌, inl, inr, ℕ, List, [], ◌++◌, refl, ap, sym, rules}
 use Rattle.std.specs.Prelude.{Option, Some, None, IsSome}
 use Rattle.std.specs.Option.{option_map}
 use Rattle.std.proofs.lemmas.List.{append-nil}
 use Rattle.nfp_outside.specs.declared.slot.Slot.TheVariants.{Report}
 use Rattle.nfp_outside.specs.Outside.{SlotView, KeepsSlot, Attaches, Appends, AppendsPrefix}
-use Rattle.call_ending.specs.Left.{Holds, HoldsPrefix, IsUntouched, LeavesPrefix, LeavesSlot}
+use Rattle.call_ending.specs.Left.{Holds, HoldsPrefix, IsUntouched, LeavesPrefix}
 
 emptied : (o : Option (List ℕ)) (bytes : List ℕ) → option_map (λ before. before ++ bytes) (option_map (λ _. []) o) ≡ option_map (λ _. bytes) o
 emptied None bytes = refl

@@ -1,5 +1,5 @@
 -- What is left in Report if a capture was led through the chains after Report was attached, or if it wasn't.
-use Rattle.std.proofs.Common.{◌≡◌, ◌∙◌, inl, inr, ℕ, List, [], length, refl, ap, sym, subst}
+use Rattle.std.proofs.Common.{◌≡◌, ◌∙◌, inl, inr, ℕ, List, sym}
 use Rattle.std.specs.Prelude.{Option, Some, None, IfErr, IfOk, IfSome, IsErrAnd, Result, Ok, Err}
 use Rattle.std.specs.Option.{option_map}
 use Rattle.nfp_outside.specs.declared.slot.Slot.{Slot}
@@ -12,7 +12,7 @@ use Rattle.plain_chains.specs.Plain.{chains_of}
 use Rattle.plain_chains.specs.declared.chain.PlainChain.{PlainChain}
 use Rattle.why_run.specs.Running.{ReportBreaks, Reports, ReportsAll, report_given}
 use Rattle.why_run.specs.declared.run.WhyEnded.{WhyEnded}
-use Rattle.why_call.specs.Reporting.{Left, Packets, Tells, packets_of, report_led}
+use Rattle.why_call.specs.Reporting.{Left, Packets, Tells, packets_of}
 use Rattle.why_call.proofs.Counted.{ways_count}
 use Rattle.why_call.proofs.HeldBytes.{holds_all, holds_prefix, untouched}
 

@@ -12,9 +12,9 @@ use Rattle.call_ending.specs.Left.{IsFinal, LeavesSlot, NoneRose}
 use Rattle.call_ending.specs.Notes.{read_fault_text, write_fault_text}
 use Rattle.call_ending.specs.declared.outcome.Outcome.{Outcome}
 use Rattle.call_ending.specs.declared.outcome.Outcome.TheVariants.{Done, Usage, Policy, Graph, Capture, CaptureNg, ReadFault, WriteFault, OutOfMemory}
-use Rattle.why_call.specs.Answers.{NotesPrefix, ReadFaultCause, WhereRead, WriteFaultCause}
+use Rattle.why_call.specs.Answers.{NotesPrefix, WhereRead}
 use Rattle.why_call.specs.Due.{WhyDue, due_of_why}
-use Rattle.why_call.specs.Ran.{Called, EndsDue, Ran}
+use Rattle.why_call.specs.Ran.{Called, Ran}
 use Rattle.why_call.proofs.CallAnswers.{risen_reading, risen_writing, whole_here}
 use Rattle.why_call.proofs.OtherSlots.{report_beside}
 use Rattle.why_call.proofs.ReadBytes.{if_read, read_always}

@@ -1,5 +1,5 @@
 -- The state after a capture wasn't opened, behind a policy without fault.
-use Rattle.std.proofs.Common.{◌≡◌, ◌≢◌, ◌⊎◌, ◌∙◌, inl, inr, ℕ, List, [], refl, ap, sym, subst}
+use Rattle.std.proofs.Common.{◌≡◌, ◌≢◌, ◌⊎◌, ◌∙◌, inl, ℕ, List, [], refl, ap, sym, subst}
 use Rattle.std.specs.Prelude.{true, false, Option, Some, None, IfSome, IsOk, Result, Ok, Err}
 use Rattle.nfp_outside.specs.declared.slot.Slot.{Slot}
 use Rattle.nfp_outside.specs.declared.slot.Slot.TheVariants as slots
@@ -7,7 +7,7 @@ use Rattle.nfp_outside.specs.Outside.{SlotView}
 use Rattle.pcap_io.specs.Capture.{capture_of}
 use Rattle.pcap_io.specs.declared.capture.CaptureFault.{CaptureFault}
 use Rattle.pcap_io.specs.declared.capture.CaptureFault.TheVariants.{BadMagic, BadVersion, BadLink, CutHead, CutRecord, FrameTooLong, TooManyRecords}
-use Rattle.pcapng_io.specs.Blocks.{is_of_first_block, next_of, start}
+use Rattle.pcapng_io.specs.Blocks.{next_of, start}
 use Rattle.pcapng_io.specs.declared.fault.NgFault.{NgFault}
 use Rattle.capture_items.specs.FaultLines.{capture_text, ng_text}
 use Rattle.capture_items.specs.Sources.{IsOpeningFault}
@@ -24,14 +24,14 @@ use Rattle.call_ending.specs.Reading.{RefusedOpening}
 use Rattle.call_ending.specs.Told.{is_ng}
 use Rattle.call_ending.specs.declared.outcome.Outcome.{Outcome}
 use Rattle.call_ending.specs.declared.outcome.Outcome.TheVariants.{Done, Usage, Policy, Graph, Capture, CaptureNg, ReadFault, WriteFault, OutOfMemory}
-use Rattle.why_call.specs.Answers.{AttachedUnless, AttachesDue, FaultAttaches, HasNames, IsFree, ReportAttaches}
+use Rattle.why_call.specs.Answers.{AttachedUnless, FaultAttaches, HasNames, IsFree, ReportAttaches}
 use Rattle.why_call.specs.Due.{WhyDue, due_by_format, due_of_capture, due_of_judged, due_of_ng, due_of_pcap, due_of_why, nothing_but}
 use Rattle.why_call.specs.Ran.{EndsDue, Ran}
 use Rattle.why_call.specs.Reporting.{IsReady, IsReadyOf}
-use Rattle.why_call.proofs.EarlyEnds.{IsDueHere, Stays, ran_by}
+use Rattle.why_call.proofs.EarlyEnds.{Stays, ran_by}
 use Rattle.why_call.proofs.HeldBytes.{untouched_prefix, untouched_same}
 use Rattle.why_call.proofs.OtherSlots.{capture_is_not_policy, note_is_not_capture, note_is_not_policy, policy_is_not_capture, report_is_not_capture, report_is_not_policy}
-use Rattle.why_call.proofs.ReadBytes.{if_told, read_always, told_always}
+use Rattle.why_call.proofs.ReadBytes.{if_told, read_always}
 
 -- ---- the policy
 
@@ -125,13 +125,17 @@ ends_so due old new outcome line left is = subst (λ d. EndsDue d old new outcom
 pub unopened_ran : (asked : WhyAsked) (old new : Slot → SlotView) (chains : List PlainChain) (outcome : Outcome) → OnlyRead asked old new → IsReady (old slots.Policy) chains → RefusedOpening (old slots.Capture) (new slots.Capture) outcome →
     Ran (Ok asked) old new outcome (stop_text outcome)
 unopened_ran asked old new chains (Capture fault) only ready h = ran_by (Ok asked) old new (Capture fault) (capture_text fault)
-    (only_stays asked old new (Capture fault) only (head_attaches fault (new slots.Report) h.0 (report_free asked old new only)))
-    (has_policy old chains ready, ready_due asked old chains (λ due. EndsDue due old new (Capture fault) (capture_text fault)) ready
-    (λ policy r. if_told (old slots.Capture).bytes _ _ (λ c is. ends_so (due_of_capture policy asked.record_number c) old new (Capture fault) (capture_text fault) (report_untouched asked old new only) (classic_due policy asked.record_number fault c is)) h.1))
+    (only_stays asked old new (Capture fault) only (head_attaches fault (new slots.Report) h.0 (report_free asked old new only))) (
+      has_policy old chains ready,
+      ready_due asked old chains (λ due. EndsDue due old new (Capture fault) (capture_text fault)) ready
+          (λ policy r. if_told (old slots.Capture).bytes _ _ (λ c is. ends_so (due_of_capture policy asked.record_number c) old new (Capture fault) (capture_text fault) (report_untouched asked old new only) (classic_due policy asked.record_number fault c is)) h.1),
+    )
 unopened_ran asked old new chains (CaptureNg fault) only ready h = ran_by (Ok asked) old new (CaptureNg fault) (ng_text fault)
-    (only_stays asked old new (CaptureNg fault) only (subst (λ first. AttachedUnless first (new slots.Report)) (sym h.0) (report_free asked old new only)))
-    (has_policy old chains ready, ready_due asked old chains (λ due. EndsDue due old new (CaptureNg fault) (ng_text fault)) ready
-    (λ policy r. if_told (old slots.Capture).bytes _ _ (λ c is. ends_so (due_of_capture policy asked.record_number c) old new (CaptureNg fault) (ng_text fault) (report_untouched asked old new only) (ng_due policy asked.record_number fault c is)) h.1))
+    (only_stays asked old new (CaptureNg fault) only (subst (λ first. AttachedUnless first (new slots.Report)) (sym h.0) (report_free asked old new only))) (
+      has_policy old chains ready,
+      ready_due asked old chains (λ due. EndsDue due old new (CaptureNg fault) (ng_text fault)) ready
+          (λ policy r. if_told (old slots.Capture).bytes _ _ (λ c is. ends_so (due_of_capture policy asked.record_number c) old new (CaptureNg fault) (ng_text fault) (report_untouched asked old new only) (ng_due policy asked.record_number fault c is)) h.1),
+    )
 unopened_ran asked old new chains (ReadFault s) only ready h = subst (λ x. Ran (Ok asked) old new (ReadFault x) (read_fault_text x)) (sym h.0)
     (ran_by (Ok asked) old new (ReadFault slots.Capture) (read_fault_text slots.Capture)
     (only_stays asked old new (ReadFault slots.Capture) only tt)

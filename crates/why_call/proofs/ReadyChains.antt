@@ -1,12 +1,12 @@
 -- The chains that were made of a policy without fault are its chains.
-use Rattle.std.proofs.Common.{◌≡◌, ◌∙◌, ℕ, List, [], ◌∷◌, map, refl, ap, sym, subst}
-use Rattle.std.specs.Prelude.{IfSome, Result, Ok}
+use Rattle.std.proofs.Common.{◌≡◌, ◌∙◌, List, [], ◌∷◌, map, refl, ap, sym, subst}
+use Rattle.std.specs.Prelude.{IfSome, Ok}
 use Rattle.nfp_outside.specs.Outside.{SlotView}
 use Rattle.policy_judge.specs.Judging.{judged}
 use Rattle.policy_judge.specs.declared.judged.Judged.{Judged}
 use Rattle.plain_chains.specs.Plain.{chains_of}
 use Rattle.plain_chains.specs.declared.chain.PlainChain.{PlainChain}
-use Rattle.why_report.specs.Report.{OrderedChain, all_in_order, in_order}
+use Rattle.why_report.specs.Report.{all_in_order, in_order}
 use Rattle.why_run.specs.Running.{ordered_of}
 use Rattle.why_call.specs.Due.{chains_judged}
 use Rattle.why_call.specs.Reporting.{IsReady, IsReadyOf}

@@ -10,7 +10,7 @@ use Rattle.call_ending.specs.Endings.{CountsWithin, NotesLine, outcome_seen, tex
 use Rattle.call_ending.specs.Left.{IsFinal, LeavesPrefix, LeavesSlot}
 use Rattle.call_ending.specs.Notes.{read_fault_text, write_fault_text}
 use Rattle.call_ending.specs.declared.outcome.Outcome.{Outcome}
-use Rattle.call_ending.specs.declared.outcome.Outcome.TheVariants.{Done, Usage, Policy, Graph, Capture, CaptureNg, ReadFault, WriteFault, OutOfMemory}
+use Rattle.call_ending.specs.declared.outcome.Outcome.TheVariants.{Done, Usage, Policy, ReadFault, WriteFault, OutOfMemory}
 use Rattle.why_call.specs.Answers.{AttachesDue, HasNames, PolicyCause, ReachesCapture, ReadFaultCause, ReadsToEnd, WhereRead, WriteFaultCause}
 use Rattle.why_call.specs.Due.{WhyDue, due_of_why}
 use Rattle.why_call.specs.declared.ending.WhyEnding.{WhyEnding}

@@ -1,14 +1,11 @@
 -- For proofs: chains that are ready, and what is left when a capture was led through them.
-use Rattle.std.specs.Prelude.{◌≡◌, ◌≤◌, ℕ, List, [], length, map, count_by, Option, Some, None, IfSome, Result, Ok, Err}
+use Rattle.std.specs.Prelude.{◌≡◌, ℕ, List, length, count_by, Option, Some, IfSome, Result, Ok, Err}
 use Rattle.std.specs.Option.{option_map}
-use Rattle.nfp_outside.specs.declared.slot.Slot.{Slot}
-use Rattle.nfp_outside.specs.declared.slot.Slot.TheVariants as slots
 use Rattle.nfp_outside.specs.Outside.{SlotView}
 use Rattle.capture_bytes.specs.declared.packet.PcapRecord.{PcapRecord}
 use Rattle.capture_bytes.specs.declared.packet.Unit.{Unit as TimeUnit}
 use Rattle.capture_bytes.specs.declared.packet.Unit.TheVariants.{Nano}
 use Rattle.capture_items.specs.Formats.{ng_left, pcap_left}
-use Rattle.capture_items.specs.Sources.{IsOpeningFault}
 use Rattle.capture_items.specs.Streams.{Stream, records_in}
 use Rattle.capture_items.specs.declared.fault.FormatFault.{FormatFault}
 use Rattle.capture_items.specs.declared.fault.RunFault.{RunFault}

@@ -101,8 +101,6 @@ fn attach_and_run<R: Wait, D: Desk>(
         Opened::Pcap(head, reader) => {
             run_why(rt, alloc, desk, service, head.unit, reader, request.record)
         }
-        Opened::Ng(source) => run_why(
-            rt, alloc, desk, service, Unit::Nano, source, request.record,
-        ),
+        Opened::Ng(source) => run_why(rt, alloc, desk, service, Unit::Nano, source, request.record),
     }
 }

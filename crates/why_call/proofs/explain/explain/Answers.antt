@@ -1,6 +1,6 @@
 use Rattle.std.proofs.Common.{◌≤◌, subst, sym}
 use Rattle.std.specs.Prelude.{IfSome}
-use Rattle.nfp_outside.specs.declared.slot.Slot.TheVariants.{Capture, Policy, Report}
+use Rattle.nfp_outside.specs.declared.slot.Slot.TheVariants.{Capture, Policy}
 use Rattle.command_words.specs.Named.{asked_seen}
 use Rattle.call_ending.specs.Told.{IsReadWhole}
 use Rattle.why_call.specs.Reporting.{packets_left}
