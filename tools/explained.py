@@ -341,7 +341,7 @@ class Walk:
 
     def read(self, lines, chains, show):
         """Reads the lines `drop` beside the packets. Returns the lines behind them."""
-        wanted, number = self.wanted, 0
+        wanted, number, known = self.wanted, 0, {}
         dropped, rest = next(lines, NONE_LEFT)
         classed = next(chains, NONE_LEFT)
         for time, frame, _, _ in self.capture.items(0):
@@ -354,7 +354,7 @@ class Walk:
             if number == dropped:
                 drop = self.note_drop(number, rest, frame)
                 dropped, rest = next(lines, NONE_LEFT)
-            if wanted is not None and wanted.fits(number, time, frame):
+            if wanted is not None and wanted.fits(number, time, frame, known):
                 while classed[0] is not None and classed[0] < number:
                     classed = next(chains, NONE_LEFT)
                 chain = classed[1].split(b' ')[0].decode() if classed[0] == number else None

@@ -121,8 +121,8 @@ class Call:
         """How it ended, if with one of these statuses."""
         status = self.process.wait()
         if status not in (due or (DONE, CAPTURE)):
-            complained = contents(self.complained) or contents(self.said)
-            raise NotEnded(f'the program ended with status {status}: {complained.strip()}')
+            complained = (contents(self.complained) or contents(self.said)).strip()
+            raise NotEnded(f'the program ended with status {status}{": " if complained else ""}{complained}')
         return Ended(status, contents(self.said))
 
 

@@ -7,6 +7,9 @@ import typing
 
 import frame_fields
 
+PLAIN = b'\x08\x00\x45'  # IPv4 without options
+MOST_KNOWN = 30_000  # pairs of ends that are kept
+
 
 class Wanted(typing.NamedTuple):
     """What a packet that is looked for has, as it was read. None is not asked for."""
@@ -20,21 +23,34 @@ class Wanted(typing.NamedTuple):
     def is_search(self):
         return bool(self.networks or self.ports or self.times)
 
-    def fits(self, number, time, frame):
-        """Whether a packet is wanted."""
+    def fits(self, number, time, frame, known):
+        """Whether a packet is wanted. What is `known` of addresses and ports is kept between two calls."""
         if self.number is not None and number != self.number:
             return False
         if self.times:
             low, high, again = self.times
             if not low <= (time % again if again else time) < high:
                 return False
-        return not self.networks and not self.ports or self.has_ends(frame)
+        if not self.networks and not self.ports:
+            return True
+        ends = ends_of(frame)
+        if ends not in known:
+            if len(known) == MOST_KNOWN:
+                known.clear()
+            known[ends] = self.has(*ends)
+        return known[ends]
 
-    def has_ends(self, frame):
-        """Whether it has the addresses and ports."""
-        fields = frame_fields.fields_of(frame)
-        addresses, ports = ([fields[field] for field in both if field in fields] for both in (('src', 'dst'), ('sport', 'dport')))
+    def has(self, addresses, ports):
         return all(any(is_within(address, network) for address in addresses) for network in self.networks) and all(port in ports for port in self.ports)
+
+
+def ends_of(frame):
+    """The addresses and the ports of a frame, of those that it has."""
+    # Most frames are TCP or UDP over IPv4, without tags, options and fragments.
+    if frame[12:15] == PLAIN and len(frame) >= 38 and frame[23] in (6, 17) and not frame[21] and not frame[20] & 0x1F and (frame[16] << 8 | frame[17]) >= 24:
+        return (frame[26:30], frame[30:34]), (frame[34:36], frame[36:38])
+    fields = frame_fields.fields_of(frame)
+    return tuple(tuple(fields[field] for field in both if field in fields) for both in (('src', 'dst'), ('sport', 'dport')))
 
 
 def is_within(address, network):

@@ -26,11 +26,13 @@ fits_twice [] = refl
 fits_twice (c ∷ chains) = ap (λ l. c.declared.fit ∷ l) (fits_twice chains)
 
 -- each packet of a burst is classified by the chains' own clauses
-pub packets_told : (fits : List Match) (chains : List ServiceChain) (unit : TimeUnit) (items : List Item) → fits ≡ fits_of chains → All (IsClassed fits) items → classed_items unit items ≡ all_classed (chains_of chains).declared unit (records_of items)
+pub packets_told : (fits : List Match) (chains : List ServiceChain) (unit : TimeUnit) (items : List Item) → fits ≡ fits_of chains → All (IsClassed fits) items →
+    classed_items unit items ≡ all_classed (chains_of chains).declared unit (records_of items)
 packets_told fits chains unit [] told held = refl
 packets_told fits chains unit (i ∷ items) told held =
     let own : fits ≡ map (λ (c : ChainPolicy). c.fit) (chains_of chains).declared = told ∙ sym (fits_twice chains) in
-    let class : i.class ≡ class_of (map (λ (c : ChainPolicy). c.fit) (chains_of chains).declared) i.packet.frame = (All-head (IsClassed fits) i items held).class ∙ ap (λ l. class_of l i.packet.frame) own in
+    let class : i.class ≡ class_of (map (λ (c : ChainPolicy). c.fit) (chains_of chains).declared) i.packet.frame =
+        (All-head (IsClassed fits) i items held).class ∙ ap (λ l. class_of l i.packet.frame) own in
     λ j. record { class = class j; packet = (classed_item unit i).packet } ∷ packets_told fits chains unit items told (All-tail (IsClassed fits) i items held) j
 
 -- the chain that takes a packet is one of those that are asked
@@ -55,7 +57,8 @@ as_many_rows b xs n [] = refl
 as_many_rows b xs n (c ∷ chains) = ap suc (as_many_rows b xs (suc n) chains)
 
 -- each chain has its row of fates
-pub rows_many : (fits : List Match) (chains : List ServiceChain) (xs : List Classed) (rows : List (List Fate)) (many : ℕ) → length rows ≡ many → rows ≡ each_fates named_behaviour xs 0 (chains_of chains).pieces → fits ≡ fits_of chains → many ≡ length fits
+pub rows_many : (fits : List Match) (chains : List ServiceChain) (xs : List Classed) (rows : List (List Fate)) (many : ℕ) → length rows ≡ many →
+    rows ≡ each_fates named_behaviour xs 0 (chains_of chains).pieces → fits ≡ fits_of chains → many ≡ length fits
 rows_many fits chains xs rows many all each told =
     sym all ∙ ap length each ∙ as_many_rows named_behaviour xs 0 (chains_of chains).pieces ∙ length-map chains pieces_in ∙ sym (length-map chains (λ c. c.declared.fit)) ∙ ap length (sym told)
 
@@ -104,10 +107,13 @@ each_names xs n (x ∷ a) (y ∷ b) led = λ i. led.0.same_names i ∷ each_name
 
 -- fates in the packets' order are those of each chain, woven
 abbrev pub AreWoven : Type 0
-AreWoven = (b : Behaviour NamedFunction) (chains : List (List (Piece NamedFunction))) (xs : List Classed) → fates_seen xs (woven (map (λ x. x.class) xs) (each_fates b xs 0 chains)) ≡ fates_among b chains xs
+AreWoven = (b : Behaviour NamedFunction) (chains : List (List (Piece NamedFunction))) (xs : List Classed) →
+    fates_seen xs (woven (map (λ x. x.class) xs) (each_fates b xs 0 chains)) ≡ fates_among b chains xs
 
-pub burst_fates : (fits : List Match) (unit : TimeUnit) (items : List Item) (before : List ServiceChain) (rows : List (List Fate)) (fates : List (Option Fate)) → AreWoven → fits ≡ fits_of before → All (IsClassed fits) items →
-    rows ≡ each_fates named_behaviour (classed_items unit items) 0 (chains_of before).pieces → fates ≡ woven (map (λ i. i.class) items) rows → all_ended items fates ≡ fates_of (chains_of before) unit (records_of items)
+pub burst_fates : (fits : List Match) (unit : TimeUnit) (items : List Item) (before : List ServiceChain) (rows : List (List Fate)) (fates : List (Option Fate)) → AreWoven → fits ≡ fits_of before →
+    All (IsClassed fits) items →
+    rows ≡ each_fates named_behaviour (classed_items unit items) 0 (chains_of before).pieces → fates ≡ woven (map (λ i. i.class) items) rows →
+        all_ended items fates ≡ fates_of (chains_of before) unit (records_of items)
 unfolding fates_of
 burst_fates fits unit items before rows fates weaves told held each is =
     let chains = (chains_of before).pieces in
@@ -115,7 +121,8 @@ burst_fates fits unit items before rows fates weaves told held each is =
     ∙ weaves named_behaviour chains (classed_items unit items)
     ∙ ap (fates_among named_behaviour chains) (packets_told fits before unit items told held)
 
-pub burst_chains : (fits : List Match) (unit : TimeUnit) (items : List Item) (before after : List ServiceChain) → ((b : Behaviour NamedFunction) (chains : List (List (Piece NamedFunction))) (xs : List Classed) → each_after b xs 0 chains ≡ chains_after b chains xs) → fits ≡ fits_of before →
+pub burst_chains : (fits : List Match) (unit : TimeUnit) (items : List Item) (before after : List ServiceChain) →
+    ((b : Behaviour NamedFunction) (chains : List (List (Piece NamedFunction))) (xs : List Classed) → each_after b xs 0 chains ≡ chains_after b chains xs) → fits ≡ fits_of before →
     All (IsClassed fits) items → LeadsEach (classed_items unit items) 0 before after → chains_of after ≡ chains_behind (chains_of before) unit (records_of items)
 unfolding chains_behind
 burst_chains fits unit items before after weaves told held led =

@@ -19,13 +19,15 @@ use Rattle.burst_walk.proofs.Leading.{IsShortPacket}
 
 -- What is known about how frames grow.
 abbrev pub FramesGrowLittle : Type 0
-FramesGrowLittle = (b : Behaviour NamedFunction) (pieces : List (Piece NamedFunction)) (ps : List Packet) (most : ℕ) → KeepsProfile b → All GrowsLittle pieces → All (λ p. length p.frame ≤ most) ps → All (IsNoLonger (most + 20 * functions_count pieces)) (long_fates b pieces ps)
+FramesGrowLittle = (b : Behaviour NamedFunction) (pieces : List (Piece NamedFunction)) (ps : List Packet) (most : ℕ) → KeepsProfile b → All GrowsLittle pieces → All (λ p. length p.frame ≤ most) ps →
+    All (IsNoLonger (most + 20 * functions_count pieces)) (long_fates b pieces ps)
 
 writable_within : (most : ℕ) (fate : Fate) → most ≤ 263424 → IsNoLonger most fate → IsWritable fate
 writable_within most (Out frame) few within = omega arith
 writable_within most (Gone position) few within = tt
 
-pub all_writable : (pieces : List (Piece NamedFunction)) (ps : List Packet) → FramesGrowLittle → All GrowsLittle pieces → functions_count pieces ≤ 64 → All IsShortPacket ps → All IsWritable (long_fates named_behaviour pieces ps)
+pub all_writable : (pieces : List (Piece NamedFunction)) (ps : List Packet) → FramesGrowLittle → All GrowsLittle pieces → functions_count pieces ≤ 64 → All IsShortPacket ps →
+    All IsWritable (long_fates named_behaviour pieces ps)
 all_writable pieces ps grow little few short =
     All-weaker (IsNoLonger (262144 + 20 * functions_count pieces)) IsWritable (λ fate within. writable_within (262144 + 20 * functions_count pieces) fate (omega arith) within) (long_fates named_behaviour pieces ps)
     (grow named_behaviour pieces ps 262144 named_keeps little short)

@@ -43,7 +43,8 @@ short_packets unit chain (item ∷ items) short = by (takes chain (classed_item 
     by false later = later
 
 -- one more chain ran its packets
-leads_more : (packets : List Classed) (number : ℕ) (before after : List ServiceChain) (chain led : ServiceChain) → LeadsEach packets number before after → LeadsChain packets (number + length before) chain led →
+leads_more : (packets : List Classed) (number : ℕ) (before after : List ServiceChain) (chain led : ServiceChain) → LeadsEach packets number before after →
+    LeadsChain packets (number + length before) chain led →
     LeadsEach packets number (before ++ chain ∷ []) (after ++ led ∷ [])
 unfolding LeadsEach
 leads_more packets number [] [] chain led each one = (subst (λ n. LeadsChain packets n chain led) (omega arith) one, tt)
@@ -77,7 +78,8 @@ pub record IsLeading {V : Type 0} (row_of : V → List Fate) (packets : List Cla
   pub fates_are : map row_of rows ≡ each_fates named_behaviour packets 0 (map pieces_in done)
   pub writable : All (λ v. All IsWritable (row_of v)) rows
 
-pub leading_begins : {V : Type 0} (row_of : V → List Fate) (packets : List Classed) (chains left led : List ServiceChain) (rows : List V) → left ≡ chains → led ≡ [] → rows ≡ [] → IsLeading row_of packets chains left led 0 rows
+pub leading_begins : {V : Type 0} (row_of : V → List Fate) (packets : List Classed) (chains left led : List ServiceChain) (rows : List V) → left ≡ chains → led ≡ [] → rows ≡ [] →
+    IsLeading row_of packets chains left led 0 rows
 leading_begins row_of packets chains left led rows all none no_rows = record {
   done = [];
   row = sym all;
@@ -87,8 +89,10 @@ leading_begins row_of packets chains left led rows all none no_rows = record {
   writable = subst (All (λ v. All IsWritable (row_of v))) (sym no_rows) (All-nil (λ v. All IsWritable (row_of v)));
 }
 
-pub leading_goes_on : {V : Type 0} (row_of : V → List Fate) (packets : List Classed) (chains left left' led led' : List ServiceChain) (number : ℕ) (rows rows' : List V) (chain after : ServiceChain) (fate_row : V) →
-    IsLeading row_of packets chains left led number rows → left ≡ chain ∷ left' → LeadsChain packets number chain after → row_of fate_row ≡ long_fates named_behaviour (pieces_in chain) (packets_in number packets) →
+pub leading_goes_on : {V : Type 0} (row_of : V →
+    List Fate) (packets : List Classed) (chains left left' led led' : List ServiceChain) (number : ℕ) (rows rows' : List V) (chain after : ServiceChain) (fate_row : V) →
+    IsLeading row_of packets chains left led number rows → left ≡ chain ∷ left' → LeadsChain packets number chain after →
+        row_of fate_row ≡ long_fates named_behaviour (pieces_in chain) (packets_in number packets) →
     All IsWritable (row_of fate_row) → led' ≡ led ++ after ∷ [] → rows' ≡ rows ++ fate_row ∷ [] → IsLeading row_of packets chains left' led' (number + 1) rows'
 leading_goes_on row_of packets chains left left' led led' number rows rows' chain after fate_row at next leads are writable more more_rows =
     let many : length (map pieces_in at.done) ≡ length at.done = length-map at.done pieces_in in

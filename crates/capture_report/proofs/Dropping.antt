@@ -13,7 +13,8 @@ use Rattle.capture_report.specs.Report.{ChainNames, drop_line, drop_lines, dropp
 use Rattle.capture_report.specs.Telling.{names_in}
 
 -- the lines up to a packet and its own
-pub lines_up_to : (names : List ChainNames) (first : ℕ) (items : List Item) (fates : List (Option Fate)) (index number : ℕ) (item : Item) (fate : Option Fate) → index < length items → index < length fates →
+pub lines_up_to : (names : List ChainNames) (first : ℕ) (items : List Item) (fates : List (Option Fate)) (index number : ℕ) (item : Item) (fate : Option Fate) → index < length items →
+    index < length fates →
     item ≡ slice_index_or items index item → fate ≡ slice_index_or fates index fate → number ≡ first + index →
     drop_lines names first (map (λ i. i.class) (take (index + 1) items)) (all_ended (take (index + 1) items) (take (index + 1) fates))
     ≡ drop_lines names first (map (λ i. i.class) (take index items)) (all_ended (take index items) (take index fates)) ++ drop_line names number item.class (ended item.packet fate)
@@ -23,13 +24,15 @@ lines_up_to names first items fates index number item fate inside inside' is is'
     ∙ go index first items fates inside inside' is is'
     ∙ ap (λ n. drop_lines names first (map (λ i. i.class) (take index items)) (all_ended (take index items) (take index fates)) ++ drop_line names n item.class (ended item.packet fate)) (sym count)
   where
-    go : (index first : ℕ) (items : List Item) (fates : List (Option Fate)) → index < length items → index < length fates → item ≡ slice_index_or items index item → fate ≡ slice_index_or fates index fate →
+    go : (index first : ℕ) (items : List Item) (fates : List (Option Fate)) → index < length items → index < length fates → item ≡ slice_index_or items index item →
+        fate ≡ slice_index_or fates index fate →
         drop_lines names first (map (λ i. i.class) (take (suc index) items)) (all_ended (take (suc index) items) (take (suc index) fates))
         ≡ drop_lines names first (map (λ i. i.class) (take index items)) (all_ended (take index items) (take index fates)) ++ drop_line names (first + index) item.class (ended item.packet fate)
     go index first [] fates inside inside' is is' = absurd (omega arith)
     go index first (i ∷ items) [] inside inside' is is' = absurd (omega arith)
     go zero first (i ∷ items) (f ∷ fates) inside inside' is is' =
-        append-nil (drop_line names first i.class (ended i.packet f)) ∙ (let same : first ≡ first + 0 = omega arith in λ j. drop_line names (same j) (sym is j).class (ended (sym is j).packet (sym is' j)))
+        append-nil (drop_line names first i.class (ended i.packet f)) ∙ (let same : first ≡ first + 0 =
+            omega arith in λ j. drop_line names (same j) (sym is j).class (ended (sym is j).packet (sym is' j)))
     go (suc index) first (i ∷ items) (f ∷ fates) inside inside' is is' =
         ap (λ l. drop_line names first i.class (ended i.packet f) ++ l)
         (go index (first + 1) items fates (omega arith) (omega arith) is is'

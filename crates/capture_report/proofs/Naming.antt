@@ -29,7 +29,8 @@ module _ (p : NamedFunction → Bool) (pieces : List (Piece NamedFunction)) (ind
       ∙ find-append p front own ∙ ap (λ o. option_or o (find p own)) none ∙ sym here
 
 -- what was found stays found, whatever follows it
-pub found_among : (p : NamedFunction → Bool) (pieces : List (Piece NamedFunction)) (index : ℕ) (f : NamedFunction) → find p (running_in (take index pieces)) ≡ Some f → Some f ≡ find p (running_in pieces)
+pub found_among : (p : NamedFunction → Bool) (pieces : List (Piece NamedFunction)) (index : ℕ) (f : NamedFunction) → find p (running_in (take index pieces)) ≡ Some f →
+    Some f ≡ find p (running_in pieces)
 found_among p pieces index f here =
     let behind = running_in (drop index pieces) in
     ap (λ o. option_or o (find p behind)) (sym here)

@@ -36,7 +36,8 @@ abbrev pub ended_so : {W : Type 0} → Passage W × Option FormatFault → Ended
 ended_so run = record { totals = run.0.totals; fault = run.1 }
 
 -- what is reported after the lines is what is due
-told_due : {W X B : Type 0} (spelled : W → Given X B → List ℕ) (service : Service) (unit : TimeUnit) (sink : W) (run : Passage W × Option FormatFault) (old new : Slot → SlotView) (b : Stream X B) → IsOpening service →
+told_due : {W X B : Type 0} (spelled : W → Given X B → List ℕ) (service : Service) (unit : TimeUnit) (sink : W) (run : Passage W × Option FormatFault) (old new : Slot → SlotView) (b : Stream X B) →
+    IsOpening service →
     PassesStream spelled (started service unit sink) run.0 run.1 old new b → told_text run.0.service.chains (ended_so run) ≡ summary_due (chains_of service.chains) unit (records_in b.given) b.fault
 told_due spelled service unit sink run old new b opening passed =
     let went = passed.passes.advances in
@@ -48,23 +49,29 @@ told_due spelled service unit sink run old new b opening passed =
     summary_told packets service.chains run.0.service.chains (ended_so run) went.led opening.chains
     ∙ (λ i. summary (went.chains i) (read i) (dropped i) (copies_due chains.pieces packets) (passed.fault_is i))
 
-pub breaks_at_title : {X B : Type 0} (spelled : Given X B → List ℕ) (chains : Chains) (unit : TimeUnit) (stream : Option (Stream X B)) (old new : Slot → SlotView) (e : RunFault) → Breaks [] title old new e → WriteBreaks spelled chains unit stream old new e
+pub breaks_at_title : {X B : Type 0} (spelled : Given X B → List ℕ) (chains : Chains) (unit : TimeUnit) (stream : Option (Stream X B)) (old new : Slot → SlotView) (e : RunFault) →
+    Breaks [] title old new e → WriteBreaks spelled chains unit stream old new e
 breaks_at_title spelled chains unit stream old new e refused = record {
   goes = broken_goes _ _ old new e refused;
   cause = refused.cause;
   prefixes = for_each stream _ (λ b. (title_refused (emitted_among spelled b.given (fates_given chains unit b)) chains unit (records_in b.given) b.fault old new e refused).prefixes);
 }
 
-pub breaks_at_records : {W X B : Type 0} (spelled : W → Given X B → List ℕ) (service : Service) (unit : TimeUnit) (sink : W) (stream : Option (Stream X B)) (old mid new : Slot → SlotView) (e : RunFault) →
+pub breaks_at_records : {W X B : Type 0} (spelled : W → Given X B → List ℕ) (service : Service) (unit : TimeUnit) (sink : W) (stream : Option (Stream X B)) (old mid new : Slot →
+    SlotView) (e : RunFault) →
     Puts [] title old mid → RunBreaks spelled (started service unit sink) stream mid new e → WriteBreaks (spelled sink) (chains_of service.chains) unit stream old new e
 breaks_at_records spelled service unit sink stream old mid new e first broken = record {
   goes = goes_more old mid new (goes_by _ _ old mid first) broken.goes;
   cause = earlier_cause old mid new e first.later broken.cause;
-  prefixes = if_some stream _ _ (λ b x. (records_refused _ (chains_of service.chains) unit (records_in b.given) b.fault old mid new e first (record { prefixes = x; cause = broken.cause })).prefixes) broken.prefixes;
+  prefixes = if_some stream _ _ (λ b x. (records_refused _ (chains_of service.chains) unit (records_in b.given) b.fault old mid new e first (record { prefixes = x; cause =
+      broken.cause })).prefixes) broken.prefixes;
 }
 
-pub breaks_at_summary : {W X B : Type 0} (spelled : W → Given X B → List ℕ) (service : Service) (unit : TimeUnit) (sink : W) (run : Passage W × Option FormatFault) (stream : Option (Stream X B)) (old mid now new : Slot → SlotView) (e : RunFault) → IsOpening service →
-    Puts [] title old mid → RunsAll spelled (started service unit sink) stream mid now run → Breaks [] (told_text run.0.service.chains (ended_so run)) now new e → WriteBreaks (spelled sink) (chains_of service.chains) unit stream old new e
+pub breaks_at_summary : {W X B : Type 0} (spelled : W → Given X B →
+    List ℕ) (service : Service) (unit : TimeUnit) (sink : W) (run : Passage W × Option FormatFault) (stream : Option (Stream X B)) (old mid now new : Slot → SlotView) (e : RunFault) →
+    IsOpening service →
+    Puts [] title old mid → RunsAll spelled (started service unit sink) stream mid now run → Breaks [] (told_text run.0.service.chains (ended_so run)) now new e →
+        WriteBreaks (spelled sink) (chains_of service.chains) unit stream old new e
 breaks_at_summary spelled service unit sink run stream old mid now new e opening first ran refused = record {
   goes = goes_more old mid new (goes_by _ _ old mid first) (goes_more mid now new ran.goes (broken_goes _ _ now new e refused));
   cause = earlier_cause old now new e (later_more old mid now first.later ran.goes.later) refused.cause;
@@ -72,8 +79,10 @@ breaks_at_summary spelled service unit sink run stream old mid now new e opening
       (subst (λ t. Breaks [] t now new e) (told_due spelled service unit sink run mid now b opening passed) refused)).prefixes) ran.passed;
 }
 
-pub writes_all : {W X B : Type 0} (spelled : W → Given X B → List ℕ) (service : Service) (unit : TimeUnit) (sink : W) (run : Passage W × Option FormatFault) (stream : Option (Stream X B)) (old mid now new : Slot → SlotView) → IsOpening service →
-    Puts [] title old mid → RunsAll spelled (started service unit sink) stream mid now run → Puts [] (told_text run.0.service.chains (ended_so run)) now new → WritesAll (spelled sink) (chains_of service.chains) unit stream old new (ended_so run)
+pub writes_all : {W X B : Type 0} (spelled : W → Given X B →
+    List ℕ) (service : Service) (unit : TimeUnit) (sink : W) (run : Passage W × Option FormatFault) (stream : Option (Stream X B)) (old mid now new : Slot → SlotView) → IsOpening service →
+    Puts [] title old mid → RunsAll spelled (started service unit sink) stream mid now run → Puts [] (told_text run.0.service.chains (ended_so run)) now new →
+        WritesAll (spelled sink) (chains_of service.chains) unit stream old new (ended_so run)
 writes_all spelled service unit sink run stream old mid now new opening first ran last = record {
   goes = goes_more old mid new (goes_by _ _ old mid first) (goes_more mid now new ran.goes (goes_by _ _ now new last));
   within = ran.within;

@@ -21,7 +21,8 @@ drained_at_end P (Ok run) mid new same drained = if_none run.1 (P new) (subst P 
 drained_at_end P (Err fault) mid new same drained = tt
 
 -- an end with a fault of the capture needn't have read it to its end
-pub drained_at_stop : {W X B : Type 0} (spelled : W → Given X B → List ℕ) (held : List (Given X B)) (p : Passage W) (refusal : SourceFault) (old new : Slot → SlotView) (r : Result (Passage W × Option FormatFault) RunFault) (P : Type 0) →
+pub drained_at_stop : {W X B : Type 0} (spelled : W → Given X B → List ℕ) (held : List (Given X B)) (p : Passage W) (refusal : SourceFault) (old new : Slot →
+    SlotView) (r : Result (Passage W × Option FormatFault) RunFault) (P : Type 0) →
     IfOk r (StopEnds spelled held p refusal old new) → IfOk r (λ run. IfNone run.1 P)
 drained_at_stop spelled held p refusal old new (Err fault) P ends = tt
 drained_at_stop spelled held p (refusals.Format fault) old new (Ok run) P ends = subst (λ o. IfNone o P) (sym ends.told) tt

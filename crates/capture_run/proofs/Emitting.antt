@@ -33,11 +33,13 @@ unfolding emitted_among all_ended
 put_of-cons spelled item items x beside fate fates = refl
 
 -- a packet with the frame that was read goes out as it was read
-pub unchanged : (spelled : PcapRecord → List ℕ) (packet : PcapRecord) → wire_after packet.wire (length packet.frame) (length packet.frame) ≡ packet.wire → emitted spelled packet (Out packet.frame) ≡ spelled packet
+pub unchanged : (spelled : PcapRecord → List ℕ) (packet : PcapRecord) → wire_after packet.wire (length packet.frame) (length packet.frame) ≡ packet.wire →
+    emitted spelled packet (Out packet.frame) ≡ spelled packet
 unchanged spelled packet as_long = λ i. spelled (record packet { wire = as_long i })
 
 -- The records of some packets were put, and these fates are left.
-pub record IsEmitting {X B : Type 0} (spelled spelled' : Given X B → List ℕ) (items : List Item) (beside : List X) (fates left : List (Option Fate)) (index : ℕ) (old now : Slot → SlotView) : Type 0 where
+pub record IsEmitting {X B : Type 0} (spelled spelled' : Given X B → List ℕ) (items : List Item) (beside : List X) (fates left : List (Option Fate)) (index : ℕ) (old now : Slot →
+    SlotView) : Type 0 where
   pub put : List ℕ
   pub puts : Puts put [] old now
   pub due : put ++ put_of spelled (drop index items) (drop index beside) left ≡ put_of spelled items beside fates
@@ -47,7 +49,8 @@ pub record IsEmitting {X B : Type 0} (spelled spelled' : Given X B → List ℕ)
   pub same_spelling : spelled' ≡ spelled
   pub others : (s : Slot) → s ≢ slots.Out → now s ≡ old s
 
-pub emitting_begins : {X B : Type 0} (spelled : Given X B → List ℕ) (items : List Item) (beside : List X) (fates left : List (Option Fate)) (old : Slot → SlotView) → left ≡ fates → length fates ≡ length items → length beside ≡ length items →
+pub emitting_begins : {X B : Type 0} (spelled : Given X B → List ℕ) (items : List Item) (beside : List X) (fates left : List (Option Fate)) (old : Slot → SlotView) → left ≡ fates →
+    length fates ≡ length items → length beside ≡ length items →
     All (λ o. IfSome o IsWritable) fates → IsEmitting spelled spelled items beside fates left 0 old old
 emitting_begins spelled items beside fates left old all as_many many writable = record {
   put = [];
@@ -61,20 +64,23 @@ emitting_begins spelled items beside fates left old all as_many many writable = 
 }
 
 -- a packet is left if a fate is
-pub still_left : {X B : Type 0} (spelled spelled' : Given X B → List ℕ) (items : List Item) (beside : List X) (fates left left' : List (Option Fate)) (fate : Option Fate) (index : ℕ) (old now : Slot → SlotView) →
+pub still_left : {X B : Type 0} (spelled spelled' : Given X B →
+    List ℕ) (items : List Item) (beside : List X) (fates left left' : List (Option Fate)) (fate : Option Fate) (index : ℕ) (old now : Slot → SlotView) →
     IsEmitting spelled spelled' items beside fates left index old now → left ≡ fate ∷ left' → index < length items
 still_left spelled spelled' items beside fates left left' fate index old now at next =
     let c = at.count in
     let n : length left ≡ suc (length left') = ap length next in
     omega arith
 
-pub next_writable : {X B : Type 0} (spelled spelled' : Given X B → List ℕ) (items : List Item) (beside : List X) (fates left left' : List (Option Fate)) (fate : Option Fate) (index : ℕ) (old now : Slot → SlotView) →
+pub next_writable : {X B : Type 0} (spelled spelled' : Given X B →
+    List ℕ) (items : List Item) (beside : List X) (fates left left' : List (Option Fate)) (fate : Option Fate) (index : ℕ) (old now : Slot → SlotView) →
     IsEmitting spelled spelled' items beside fates left index old now → left ≡ fate ∷ left' → IfSome fate IsWritable
 next_writable spelled spelled' items beside fates left left' fate index old now at next =
     All-head (λ o. IfSome o IsWritable) fate left' (All-same (λ o. IfSome o IsWritable) (fate ∷ left') left (sym next) at.writable)
 
 -- what is left to be put is the next packet's record and what is left after it
-due_next : {X B : Type 0} (spelled : Given X B → List ℕ) (items : List Item) (beside : List X) (left left' : List (Option Fate)) (index : ℕ) (item : Item) (x : X) (fate : Option Fate) → left ≡ fate ∷ left' → index < length items → length beside ≡ length items →
+due_next : {X B : Type 0} (spelled : Given X B → List ℕ) (items : List Item) (beside : List X) (left left' : List (Option Fate)) (index : ℕ) (item : Item) (x : X) (fate : Option Fate) →
+    left ≡ fate ∷ left' → index < length items → length beside ≡ length items →
     item ≡ slice_index_or items index item → x ≡ slice_index_or beside index x →
     put_of spelled (drop index items) (drop index beside) left ≡ emitted (spelled_with spelled x) item.packet (ended item.packet fate) ++ put_of spelled (drop (index + 1) items) (drop (index + 1) beside) left'
 due_next spelled items beside left left' index item x fate next inside many is is_x =
@@ -82,7 +88,8 @@ due_next spelled items beside left left' index item x fate next inside many is i
     let split_x : drop index beside ≡ x ∷ drop (index + 1) beside = drop_more beside index x (omega arith) ∙ ap (λ i. i ∷ drop (index + 1) beside) (sym is_x) in
     (λ i. put_of spelled (split i) (split_x i) (next i)) ∙ put_of-cons spelled item (drop (index + 1) items) x (drop (index + 1) beside) fate left'
 
-pub emitting_goes_on : {X B : Type 0} (spelled spelled1 spelled2 : Given X B → List ℕ) (items : List Item) (beside : List X) (fates left left' : List (Option Fate)) (index : ℕ) (item : Item) (x : X) (fate : Option Fate) (old mid new : Slot → SlotView) →
+pub emitting_goes_on : {X B : Type 0} (spelled spelled1 spelled2 : Given X B →
+    List ℕ) (items : List Item) (beside : List X) (fates left left' : List (Option Fate)) (index : ℕ) (item : Item) (x : X) (fate : Option Fate) (old mid new : Slot → SlotView) →
     IsEmitting spelled spelled1 items beside fates left index old mid → left ≡ fate ∷ left' → item ≡ slice_index_or items index item → x ≡ slice_index_or beside index x →
     Puts (emitted (spelled_with spelled1 x) item.packet (ended item.packet fate)) [] mid new → spelled2 ≡ spelled1 → ((s : Slot) → s ≢ slots.Out → new s ≡ mid s) →
     IsEmitting spelled spelled2 items beside fates left' (index + 1) old new
@@ -101,7 +108,8 @@ emitting_goes_on spelled spelled1 spelled2 items beside fates left left' index i
       others = λ s r. around s r ∙ at.others s r;
     }
 
-pub emitting_ends : {X B : Type 0} (spelled spelled' : Given X B → List ℕ) (items : List Item) (beside : List X) (fates left : List (Option Fate)) (index : ℕ) (old now : Slot → SlotView) → IsEmitting spelled spelled' items beside fates left index old now →
+pub emitting_ends : {X B : Type 0} (spelled spelled' : Given X B → List ℕ) (items : List Item) (beside : List X) (fates left : List (Option Fate)) (index : ℕ) (old now : Slot → SlotView) →
+    IsEmitting spelled spelled' items beside fates left index old now →
     length left ≡ 0 → Puts (put_of spelled items beside fates) [] old now
 emitting_ends spelled spelled' items beside fates left index old now at none =
     let c = at.count in
@@ -111,7 +119,8 @@ emitting_ends spelled spelled' items beside fates left index old now at none =
     let rest : put_of spelled (drop index items) (drop index beside) left ≡ [] = (λ i. put_of spelled (over i) (over_x i) (nil_from_length left none i)) ∙ put_of-nil spelled in
     puts_is at.put (put_of spelled items beside fates) [] [] old now (sym (append-nil at.put) ∙ ap (λ l. at.put ++ l) (sym rest) ∙ at.due) refl at.puts
 
-pub emitting_breaks : {X B : Type 0} (spelled spelled1 : Given X B → List ℕ) (items : List Item) (beside : List X) (fates left left' : List (Option Fate)) (index : ℕ) (item : Item) (x : X) (fate : Option Fate) (old mid new : Slot → SlotView) (e : RunFault) →
+pub emitting_breaks : {X B : Type 0} (spelled spelled1 : Given X B →
+    List ℕ) (items : List Item) (beside : List X) (fates left left' : List (Option Fate)) (index : ℕ) (item : Item) (x : X) (fate : Option Fate) (old mid new : Slot → SlotView) (e : RunFault) →
     IsEmitting spelled spelled1 items beside fates left index old mid → left ≡ fate ∷ left' → item ≡ slice_index_or items index item → x ≡ slice_index_or beside index x →
     Breaks (emitted (spelled_with spelled1 x) item.packet (ended item.packet fate)) [] mid new e → Breaks (put_of spelled items beside fates) [] old new e
 emitting_breaks spelled spelled1 items beside fates left left' index item x fate old mid new e at next is is_x broken =

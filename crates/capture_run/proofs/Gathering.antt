@@ -96,7 +96,8 @@ module _ {X : Type 0} (piece : X → List ℕ) (xs : List X) where
   telling_ends index h m old now at all = subst (λ l. Gathers (flat_map piece l) h m old now) (take_all index xs all) at.gathered
 
 -- the lines of a chain's functions are put one function after another
-pub chain_told : (chain : ChainPolicy) (functions : List NamedFunction) (items : List FunctionDecl) → items ≡ chain.functions → flat_map (function_lines chain.name functions) items ≡ chain_lines chain functions
+pub chain_told : (chain : ChainPolicy) (functions : List NamedFunction) (items : List FunctionDecl) → items ≡ chain.functions →
+    flat_map (function_lines chain.name functions) items ≡ chain_lines chain functions
 unfolding chain_lines
 chain_told chain functions items same = ap (flat_map (function_lines chain.name functions)) same
 
@@ -124,5 +125,6 @@ if_err (Ok x) P Q f p = tt
 if_err (Err e) P Q f p = f e p
 
 -- the lines of the state of the function that was found by its name
-pub state_found : (functions : List NamedFunction) (name : List ℕ) (found : Option NamedFunction) → found ≡ find (λ f. bytes_eq f.name name) functions → option_map_or named_lines found [] ≡ state_text functions name
+pub state_found : (functions : List NamedFunction) (name : List ℕ) (found : Option NamedFunction) → found ≡ find (λ f. bytes_eq f.name name) functions →
+    option_map_or named_lines found [] ≡ state_text functions name
 state_found functions name found is = ap (λ o. option_map_or named_lines o []) is

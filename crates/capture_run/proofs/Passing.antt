@@ -53,7 +53,8 @@ passes_none spelled p old = record {
 }
 
 -- a block that is no packet was put
-pub passes_block : {W X B : Type 0} (spelled : W → Given X B → List ℕ) (p : Passage W) (w : W) (b : B) (old new : Slot → SlotView) → spelled w ≡ spelled p.writer → Puts (spelled p.writer (Block b)) [] old new →
+pub passes_block : {W X B : Type 0} (spelled : W → Given X B → List ℕ) (p : Passage W) (w : W) (b : B) (old new : Slot → SlotView) → spelled w ≡ spelled p.writer →
+    Puts (spelled p.writer (Block b)) [] old new →
     Passes spelled (Block b ∷ []) p (record p { writer = w }) old new
 unfolding emitted_among
 passes_block spelled p w b old new same puts = record {
@@ -61,7 +62,8 @@ passes_block spelled p w b old new same puts = record {
   puts = puts_is _ _ [] _ old new (sym (append-nil (spelled p.writer (Block b)))) (sym (no_lines_next p)) puts;
 }
 
-pub breaks_block : {W X B : Type 0} (spelled : W → Given X B → List ℕ) (p : Passage W) (b : B) (old new : Slot → SlotView) (e : RunFault) → Breaks (spelled p.writer (Block b)) [] old new e → PassBreaks spelled (Block b ∷ []) p old new e
+pub breaks_block : {W X B : Type 0} (spelled : W → Given X B → List ℕ) (p : Passage W) (b : B) (old new : Slot → SlotView) (e : RunFault) → Breaks (spelled p.writer (Block b)) [] old new e →
+    PassBreaks spelled (Block b ∷ []) p old new e
 unfolding emitted_among
 breaks_block spelled p b old new e broken = breaks_is _ _ [] _ old new e (sym (append-nil (spelled p.writer (Block b)))) (sym (no_lines_next p)) broken
 
@@ -72,14 +74,16 @@ same_declared spelled xs a b went = ap (λ c. c.declared) went.chains ∙ declar
 packets_behind : {W X B : Type 0} (spelled : W → Given X B → List ℕ) (xs ys : List PcapRecord) (a b : Passage W) → Advances spelled xs a b → packets_next b ys ≡ packets_next a ys
 packets_behind spelled xs ys a b went = λ i. all_classed (same_declared spelled xs a b went i) (went.same_unit i) ys
 
-packets_more : {W X B : Type 0} (spelled : W → Given X B → List ℕ) (xs ys : List PcapRecord) (a b : Passage W) → Advances spelled xs a b → packets_next a (xs ++ ys) ≡ packets_next a xs ++ packets_next b ys
+packets_more : {W X B : Type 0} (spelled : W → Given X B → List ℕ) (xs ys : List PcapRecord) (a b : Passage W) → Advances spelled xs a b →
+    packets_next a (xs ++ ys) ≡ packets_next a xs ++ packets_next b ys
 packets_more spelled xs ys a b went = classed-append (chains_in a).declared a.unit xs ys ∙ ap (λ l. packets_next a xs ++ l) (sym (packets_behind spelled xs ys a b went))
 
 -- what comes after these records is what comes next if they passed
 fates_more : {W X B : Type 0} (spelled : W → Given X B → List ℕ) (xs ys : List PcapRecord) (a b : Passage W) → Advances spelled xs a b → fates_next a (xs ++ ys) ≡ fates_next a xs ++ fates_next b ys
 fates_more spelled xs ys a b went = fates_of-append (chains_in a) a.unit xs ys ∙ ap (λ l. fates_next a xs ++ l) (λ i. fates_of (sym went.chains i) (sym went.same_unit i) ys)
 
-out_more : {W X B : Type 0} (spelled : W → Given X B → List ℕ) (xs ys : List (Given X B)) (a b : Passage W) → Advances spelled (records_in xs) a b → out_next spelled a (xs ++ ys) ≡ out_next spelled a xs ++ out_next spelled b ys
+out_more : {W X B : Type 0} (spelled : W → Given X B → List ℕ) (xs ys : List (Given X B)) (a b : Passage W) → Advances spelled (records_in xs) a b →
+    out_next spelled a (xs ++ ys) ≡ out_next spelled a xs ++ out_next spelled b ys
 out_more spelled xs ys a b went =
     ap (λ l. emitted_among (spelled a.writer) (xs ++ ys) (fates_next a l)) (records-append xs ys)
     ∙ ap (emitted_among (spelled a.writer) (xs ++ ys)) (fates_more spelled (records_in xs) (records_in ys) a b went)
@@ -100,7 +104,8 @@ lines_more spelled xs ys a b went =
     ∙ lines-append (names_among (chains_in a)) (next_number a) (classes_of (packets_next a xs)) (classes_of (packets_next b ys)) (fates_next a xs) (fates_next b ys) (as_many_next a xs)
     ∙ (λ i. lines_next a xs ++ drop_lines (sym names i) (number i) (classes_of (packets_next b ys)) (fates_next b ys))
 
-advances_more : {W X B : Type 0} → CountsInARow → (spelled : W → Given X B → List ℕ) (xs ys : List PcapRecord) (a b c : Passage W) → Advances spelled xs a b → Advances spelled ys b c → Advances spelled (xs ++ ys) a c
+advances_more : {W X B : Type 0} → CountsInARow → (spelled : W → Given X B → List ℕ) (xs ys : List PcapRecord) (a b c : Passage W) → Advances spelled xs a b → Advances spelled ys b c →
+    Advances spelled (xs ++ ys) a c
 advances_more law spelled xs ys a b c first second = record {
   same_classes = second.same_classes ∙ first.same_classes;
   same_unit = second.same_unit ∙ first.same_unit;
@@ -109,32 +114,38 @@ advances_more law spelled xs ys a b c first second = record {
   chains = second.chains ∙ (λ i. chains_behind (first.chains i) (first.same_unit i) ys) ∙ sym (chains_behind-append (chains_in a) a.unit xs ys);
   read = let e = length-append xs ys in let h = first.read in let k = second.read in omega arith;
   dropped =
-      let e : count_by is_gone (fates_next a (xs ++ ys)) ≡ count_by is_gone (fates_next a xs) + count_by is_gone (fates_next b ys) = ap (count_by is_gone) (fates_more spelled xs ys a b first) ∙ gone-append (fates_next a xs) (fates_next b ys) in
+      let e : count_by is_gone (fates_next a (xs ++ ys)) ≡ count_by is_gone (fates_next a xs) + count_by is_gone (fates_next b ys) =
+          ap (count_by is_gone) (fates_more spelled xs ys a b first) ∙ gone-append (fates_next a xs) (fates_next b ys) in
       let h = first.dropped in
       let k = second.dropped in
       omega arith;
 }
 
 -- the same for what was given
-advances_row : {W X B : Type 0} → CountsInARow → (spelled : W → Given X B → List ℕ) (xs ys : List (Given X B)) (a b c : Passage W) → Advances spelled (records_in xs) a b → Advances spelled (records_in ys) b c → Advances spelled (records_in (xs ++ ys)) a c
+advances_row : {W X B : Type 0} → CountsInARow → (spelled : W → Given X B → List ℕ) (xs ys : List (Given X B)) (a b c : Passage W) → Advances spelled (records_in xs) a b →
+    Advances spelled (records_in ys) b c → Advances spelled (records_in (xs ++ ys)) a c
 advances_row law spelled xs ys a b c first second = subst (λ l. Advances spelled l a c) (sym (records-append xs ys)) (advances_more law spelled (records_in xs) (records_in ys) a b c first second)
 
-lines_row : {W X B : Type 0} (spelled : W → Given X B → List ℕ) (xs ys : List (Given X B)) (a b : Passage W) → Advances spelled (records_in xs) a b → lines_next a (records_in (xs ++ ys)) ≡ lines_next a (records_in xs) ++ lines_next b (records_in ys)
+lines_row : {W X B : Type 0} (spelled : W → Given X B → List ℕ) (xs ys : List (Given X B)) (a b : Passage W) → Advances spelled (records_in xs) a b →
+    lines_next a (records_in (xs ++ ys)) ≡ lines_next a (records_in xs) ++ lines_next b (records_in ys)
 lines_row spelled xs ys a b went = ap (lines_next a) (records-append xs ys) ∙ lines_more spelled (records_in xs) (records_in ys) a b went
 
-pub passes_more : {W X B : Type 0} → CountsInARow → (spelled : W → Given X B → List ℕ) (xs ys : List (Given X B)) (a b c : Passage W) (old mid new : Slot → SlotView) → Passes spelled xs a b old mid → Passes spelled ys b c mid new → Passes spelled (xs ++ ys) a c old new
+pub passes_more : {W X B : Type 0} → CountsInARow → (spelled : W → Given X B → List ℕ) (xs ys : List (Given X B)) (a b c : Passage W) (old mid new : Slot → SlotView) →
+    Passes spelled xs a b old mid → Passes spelled ys b c mid new → Passes spelled (xs ++ ys) a c old new
 passes_more law spelled xs ys a b c old mid new first second = record {
   advances = advances_row law spelled xs ys a b c first.advances second.advances;
   puts = puts_is _ _ _ _ old new (sym (out_more spelled xs ys a b first.advances)) (sym (lines_row spelled xs ys a b first.advances)) (puts_more _ _ _ _ old mid new first.puts second.puts);
 }
 
 -- the part that comes next was broken off
-pub breaks_next : {W X B : Type 0} (spelled : W → Given X B → List ℕ) (xs ys : List (Given X B)) (a b : Passage W) (old mid new : Slot → SlotView) (e : RunFault) → Passes spelled xs a b old mid → PassBreaks spelled ys b mid new e → PassBreaks spelled (xs ++ ys) a old new e
+pub breaks_next : {W X B : Type 0} (spelled : W → Given X B → List ℕ) (xs ys : List (Given X B)) (a b : Passage W) (old mid new : Slot → SlotView) (e : RunFault) → Passes spelled xs a b old mid →
+    PassBreaks spelled ys b mid new e → PassBreaks spelled (xs ++ ys) a old new e
 breaks_next spelled xs ys a b old mid new e first broken =
     breaks_is _ _ _ _ old new e (sym (out_more spelled xs ys a b first.advances)) (sym (lines_row spelled xs ys a b first.advances)) (breaks_more _ _ _ _ old mid new e first.puts broken)
 
 -- a prefix that was put stays a prefix of more
-pub longer : {W X B : Type 0} (spelled : W → Given X B → List ℕ) (xs ys : List (Given X B)) (p : Passage W) (old new : Slot → SlotView) (e : RunFault) → PassBreaks spelled xs p old new e → PassBreaks spelled (xs ++ ys) p old new e
+pub longer : {W X B : Type 0} (spelled : W → Given X B → List ℕ) (xs ys : List (Given X B)) (p : Passage W) (old new : Slot → SlotView) (e : RunFault) → PassBreaks spelled xs p old new e →
+    PassBreaks spelled (xs ++ ys) p old new e
 longer spelled xs ys p old new e broken =
     let front = records_in xs in
     let back = records_in ys in

@@ -51,14 +51,16 @@ settled start (Some left) done fault whole empty = subst (λ o. IfSome o (λ s. 
     (ap (with_all done) empty ∙ ap (λ l. record { given = l; fault = fault }) (append-nil done))
 
 -- all that the capture gives passed
-pub runs_all : {W X B : Type 0} (spelled : W → Given X B → List ℕ) (p : Passage W) (run : Passage W × Option FormatFault) (start left : Option (Stream X B)) (all : List (Given X B)) (old new : Slot → SlotView) →
+pub runs_all : {W X B : Type 0} (spelled : W → Given X B →
+    List ℕ) (p : Passage W) (run : Passage W × Option FormatFault) (start left : Option (Stream X B)) (all : List (Given X B)) (old new : Slot → SlotView) →
     Passes spelled all p run.0 old new → start ≡ option_map (with_all all) left → IfSome left (λ s. s ≡ record { given = []; fault = run.1 }) → IfSome run.1 (λ fault. ¬ IsOpeningFault fault) →
     run.0.totals.dropped ≤ run.0.totals.records → RunsAll spelled p start old new run
 runs_all {X = X} {B = B} spelled p run start left all old new passes whole empty kind within = record {
   goes = goes_by _ _ old new passes.puts;
   within = within;
   kind = kind;
-  passed = if_some start _ _ (λ s is. subst (λ (x : Stream X B). PassesStream spelled p run.0 run.1 old new x) (sym is) (record { passes = passes; fault_is = refl })) (settled start left all run.1 whole empty);
+  passed = if_some start _ _ (λ s is. subst (λ (x : Stream X B). PassesStream spelled p run.0 run.1 old new x) (sym is) (record { passes = passes; fault_is =
+      refl })) (settled start left all run.1 whole empty);
 }
 
 -- this is the front of what the capture gives

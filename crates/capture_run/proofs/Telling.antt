@@ -28,7 +28,8 @@ unfolding copies_due
 count_due xs all n a b f led opening at = led.copied f ∙ (λ i. raised (opening.none_copied f i) (copies_through named_behaviour (sym at i) (packets_in n xs) f))
 
 -- the lines of each chain's copies
-copies_told : (xs : List Classed) (all done : List (List (Piece NamedFunction))) (n : ℕ) (a b : List ServiceChain) → LeadsEach xs n a b → All IsOpeningChain a → length done ≡ n → all ≡ done ++ map pieces_in a →
+copies_told : (xs : List Classed) (all done : List (List (Piece NamedFunction))) (n : ℕ) (a b : List ServiceChain) → LeadsEach xs n a b → All IsOpeningChain a → length done ≡ n →
+    all ≡ done ++ map pieces_in a →
     flat_map (λ (c : ServiceChain). copies_lines c.declared.name (count_of c.copies)) b ≡ flat_map (λ x. copies_lines x.1.name (copies_due all xs x.0)) (enumerate_from n (map (λ (c : ServiceChain). c.declared) b))
 unfolding LeadsEach
 copies_told xs all done n [] [] led opening many row = refl
@@ -45,7 +46,8 @@ copies_told xs all done n (x ∷ a) (y ∷ b) led opening many row =
     ∙ ap (λ m. copies_lines y.declared.name (copies_due all xs n) ++ flat_map (λ z. copies_lines z.1.name (copies_due all xs z.0)) (enumerate_from m (map (λ (c : ServiceChain). c.declared) b))) (sym (add-one n))
 
 -- the lines of each chain's functions
-functions_told : (b : List ServiceChain) → flat_map (λ (c : ServiceChain). chain_lines c.declared (functions_in (pieces_in c))) b ≡ flat_map (λ x. chain_lines x.0 (functions_in x.1)) (zip (chains_of b).declared (chains_of b).pieces)
+functions_told : (b : List ServiceChain) →
+    flat_map (λ (c : ServiceChain). chain_lines c.declared (functions_in (pieces_in c))) b ≡ flat_map (λ x. chain_lines x.0 (functions_in x.1)) (zip (chains_of b).declared (chains_of b).pieces)
 functions_told [] = refl
 functions_told (c ∷ b) = ap (λ l. chain_lines c.declared (functions_in (pieces_in c)) ++ l) (functions_told b)
 

@@ -39,14 +39,16 @@ use Rattle.capture_run.proofs.Streaming.{held_more, records-append, records_held
 use Rattle.capture_run.proofs.Walking.{length-fates_of}
 
 -- reading puts nothing
-passes_read : {W X B : Type 0} (spelled : W → Given X B → List ℕ) (xs : List (Given X B)) (a b : Passage W) (old mid now : Slot → SlotView) → Passes spelled xs a b old mid → Puts [] [] mid now → Passes spelled xs a b old now
+passes_read : {W X B : Type 0} (spelled : W → Given X B → List ℕ) (xs : List (Given X B)) (a b : Passage W) (old mid now : Slot → SlotView) → Passes spelled xs a b old mid → Puts [] [] mid now →
+    Passes spelled xs a b old now
 passes_read spelled xs a b old mid now passes reads = record {
   advances = passes.advances;
   puts = puts_is _ _ _ _ old now (append-nil _) (append-nil _) (puts_more _ _ [] [] old mid now passes.puts reads);
 }
 
 -- at most as many were dropped as were read, if that held before
-still_within : {W X B : Type 0} (spelled : W → Given X B → List ℕ) (xs : List (Given X B)) (a b : Passage W) (old new : Slot → SlotView) → Passes spelled xs a b old new → a.totals.dropped ≤ a.totals.records → b.totals.dropped ≤ b.totals.records
+still_within : {W X B : Type 0} (spelled : W → Given X B → List ℕ) (xs : List (Given X B)) (a b : Passage W) (old new : Slot → SlotView) → Passes spelled xs a b old new →
+    a.totals.dropped ≤ a.totals.records → b.totals.dropped ≤ b.totals.records
 still_within spelled xs a b old new passes within =
     let read = passes.advances.read in
     let gone = passes.advances.dropped in
@@ -55,7 +57,8 @@ still_within spelled xs a b old new passes within =
     omega arith
 
 -- one more packet is held, with the chain that takes it
-pub more_classed : (fits : List Match) (cut : Cutting) (packet : PcapRecord) (class : Option ℕ) (items : List Item) → All (IsClassed fits) cut.held → IsShort packet → class ≡ class_of fits packet.frame → items ≡ with_packet cut packet class → All (IsClassed fits) items
+pub more_classed : (fits : List Match) (cut : Cutting) (packet : PcapRecord) (class : Option ℕ) (items : List Item) → All (IsClassed fits) cut.held → IsShort packet →
+    class ≡ class_of fits packet.frame → items ≡ with_packet cut packet class → All (IsClassed fits) items
 more_classed fits cut packet class items held short told is =
     subst (All (IsClassed fits)) (sym is)
     (All-append (IsClassed fits) cut.held (record { number = cut.added + 1; class = class; packet = packet } ∷ []) held
@@ -65,15 +68,18 @@ more_held : {X B : Type 0} (cut : Cutting) (beside : List X) (packet : PcapRecor
     held_in {X = X} {B = B} cut.held beside ++ Packet packet x ∷ [] ≡ held_in (with_packet cut packet class) (beside ++ x ∷ [])
 more_held cut beside packet x class many = sym (held_more cut.held beside (record { number = cut.added + 1; class = class; packet = packet }) x many)
 
-pub one_more : {X : Type 0} (cut : Cutting) (beside : List X) (packet : PcapRecord) (x : X) (class : Option ℕ) → length beside ≡ length cut.held → length (beside ++ x ∷ []) ≡ length (with_packet cut packet class)
+pub one_more : {X : Type 0} (cut : Cutting) (beside : List X) (packet : PcapRecord) (x : X) (class : Option ℕ) → length beside ≡ length cut.held →
+    length (beside ++ x ∷ []) ≡ length (with_packet cut packet class)
 one_more cut beside packet x class many =
     let a = length-append beside (x ∷ []) in
     let b = length-append cut.held (record { number = cut.added + 1; class = class; packet = packet } ∷ []) in
     omega arith
 
 -- the burst stays open
-pub takes_open : {W X B : Type 0} (spelled : W → Given X B → List ℕ) (cut cut' : Cutting) (beside beside' : List X) (packet : PcapRecord) (x : X) (class : Option ℕ) (p : Passage W) (old : Slot → SlotView) → All (IsClassed p.service.classes) cut.held → IsTold p → IsShort packet →
-    length beside ≡ length cut.held → class ≡ class_of p.service.classes packet.frame → ¬ IsTrue (closes cut packet class) → cut' ≡ after cut packet class → beside' ≡ beside ++ x ∷ [] → Takes spelled cut beside cut' beside' (Packet packet x) p p old old
+pub takes_open : {W X B : Type 0} (spelled : W → Given X B → List ℕ) (cut cut' : Cutting) (beside beside' : List X) (packet : PcapRecord) (x : X) (class : Option ℕ) (p : Passage W) (old : Slot →
+    SlotView) → All (IsClassed p.service.classes) cut.held → IsTold p → IsShort packet →
+    length beside ≡ length cut.held → class ≡ class_of p.service.classes packet.frame → ¬ IsTrue (closes cut packet class) → cut' ≡ after cut packet class → beside' ≡ beside ++ x ∷ [] →
+        Takes spelled cut beside cut' beside' (Packet packet x) p p old old
 takes_open spelled cut cut' beside beside' packet x class p old held told short many is_class stays is one = go (closes cut packet class) refl
   where
     go : (b : Bool) → closes cut packet class ≡ b → Takes spelled cut beside cut' beside' (Packet packet x) p p old old
@@ -92,8 +98,11 @@ takes_open spelled cut cut' beside beside' packet x class p old held told short 
         }
 
 -- the burst is closed, and ran
-pub takes_closed : {W X B : Type 0} (spelled : W → Given X B → List ℕ) (cut cut' : Cutting) (beside all beside' : List X) (packet : PcapRecord) (x : X) (class : Option ℕ) (items : List Item) (p p' : Passage W) (old new : Slot → SlotView) → IsTrue (closes cut packet class) →
-    cut' ≡ after cut packet class → items ≡ with_packet cut packet class → all ≡ beside ++ x ∷ [] → beside' ≡ [] → length beside ≡ length cut.held → IsTold p' → Passes spelled (held_in items all) p p' old new →
+pub takes_closed : {W X B : Type 0} (spelled : W → Given X B →
+    List ℕ) (cut cut' : Cutting) (beside all beside' : List X) (packet : PcapRecord) (x : X) (class : Option ℕ) (items : List Item) (p p' : Passage W) (old new : Slot → SlotView) →
+    IsTrue (closes cut packet class) →
+    cut' ≡ after cut packet class → items ≡ with_packet cut packet class → all ≡ beside ++ x ∷ [] → beside' ≡ [] → length beside ≡ length cut.held → IsTold p' →
+        Passes spelled (held_in items all) p p' old new →
     Takes spelled cut beside cut' beside' (Packet packet x) p p' old new
 takes_closed spelled cut cut' beside all beside' packet x class items p p' old new closed is are more none many told passes = go (closes cut packet class) refl
   where
@@ -112,14 +121,19 @@ takes_closed spelled cut cut' beside all beside' packet x class items p p' old n
           as_many = ap length none ∙ ap (λ c. length c.held) (sym now);
         }
 
-pub takes_broken : {W X B : Type 0} (spelled : W → Given X B → List ℕ) (cut : Cutting) (beside all : List X) (packet : PcapRecord) (x : X) (class : Option ℕ) (items : List Item) (p : Passage W) (old new : Slot → SlotView) (e : RunFault) →
-    items ≡ with_packet cut packet class → all ≡ beside ++ x ∷ [] → length beside ≡ length cut.held → PassBreaks spelled (held_in items all) p old new e → TakeBreaks spelled cut beside (Packet packet x) p old new e
+pub takes_broken : {W X B : Type 0} (spelled : W → Given X B →
+    List ℕ) (cut : Cutting) (beside all : List X) (packet : PcapRecord) (x : X) (class : Option ℕ) (items : List Item) (p : Passage W) (old new : Slot → SlotView) (e : RunFault) →
+    items ≡ with_packet cut packet class → all ≡ beside ++ x ∷ [] → length beside ≡ length cut.held → PassBreaks spelled (held_in items all) p old new e →
+        TakeBreaks spelled cut beside (Packet packet x) p old new e
 takes_broken spelled cut beside all packet x class items p old new e are more many broken =
     subst (λ l. PassBreaks spelled l p old new e) ((λ i. held_in (are i) (more i)) ∙ sym (more_held cut beside packet x class many)) broken
 
 -- a block that is no packet closed the burst, and was appended after it
-pub takes_block : {W X B : Type 0} → CountsInARow → (spelled : W → Given X B → List ℕ) (cut cut' : Cutting) (beside beside' : List X) (b : B) (items : List Item) (p p' : Passage W) (w : W) (old mid new : Slot → SlotView) → cut' ≡ closed_now cut → items ≡ cut.held → beside' ≡ [] →
-    IsTold p' → Passes spelled (held_in items beside) p p' old mid → spelled w ≡ spelled p'.writer → Puts (spelled p'.writer (Block b)) [] mid new → Takes spelled cut beside cut' beside' (Block b) p (record p' { writer = w }) old new
+pub takes_block : {W X B : Type 0} → CountsInARow →
+    (spelled : W → Given X B → List ℕ) (cut cut' : Cutting) (beside beside' : List X) (b : B) (items : List Item) (p p' : Passage W) (w : W) (old mid new : Slot → SlotView) → cut' ≡ closed_now cut →
+    items ≡ cut.held → beside' ≡ [] →
+    IsTold p' → Passes spelled (held_in items beside) p p' old mid → spelled w ≡ spelled p'.writer → Puts (spelled p'.writer (Block b)) [] mid new →
+        Takes spelled cut beside cut' beside' (Block b) p (record p' { writer = w }) old new
 takes_block law spelled cut cut' beside beside' b items p p' w old mid new is are none told passes same put = record {
   ran = held_in items beside ++ Block b ∷ [];
   passes = passes_more law spelled (held_in items beside) (Block b ∷ []) p p' (record p' { writer = w }) old mid new passes (passes_block spelled p' w b mid new same put);
@@ -130,19 +144,22 @@ takes_block law spelled cut cut' beside beside' b items p p' w old mid new is ar
   as_many = ap length none ∙ ap (λ c. length c.held) (sym is);
 }
 
-pub block_broken : {W X B : Type 0} (spelled : W → Given X B → List ℕ) (cut : Cutting) (beside : List X) (b : B) (items : List Item) (p p' : Passage W) (old mid new : Slot → SlotView) (e : RunFault) → items ≡ cut.held → Passes spelled (held_in items beside) p p' old mid →
+pub block_broken : {W X B : Type 0} (spelled : W → Given X B → List ℕ) (cut : Cutting) (beside : List X) (b : B) (items : List Item) (p p' : Passage W) (old mid new : Slot →
+    SlotView) (e : RunFault) → items ≡ cut.held → Passes spelled (held_in items beside) p p' old mid →
     Breaks (spelled p'.writer (Block b)) [] mid new e → TakeBreaks spelled cut beside (Block b) p old new e
 block_broken spelled cut beside b items p p' old mid new e are passes broken =
     subst (λ l. PassBreaks spelled (held_in l beside ++ Block b ∷ []) p old new e) are
     (breaks_next spelled (held_in items beside) (Block b ∷ []) p p' old mid new e passes (breaks_block spelled p' b mid new e broken))
 
-pub before_block : {W X B : Type 0} (spelled : W → Given X B → List ℕ) (cut : Cutting) (beside : List X) (b : B) (items : List Item) (p : Passage W) (old new : Slot → SlotView) (e : RunFault) → items ≡ cut.held → PassBreaks spelled (held_in items beside) p old new e →
+pub before_block : {W X B : Type 0} (spelled : W → Given X B → List ℕ) (cut : Cutting) (beside : List X) (b : B) (items : List Item) (p : Passage W) (old new : Slot → SlotView) (e : RunFault) →
+    items ≡ cut.held → PassBreaks spelled (held_in items beside) p old new e →
     TakeBreaks spelled cut beside (Block b) p old new e
 before_block spelled cut beside b items p old new e are broken =
     subst (λ l. PassBreaks spelled (held_in l beside ++ Block b ∷ []) p old new e) are (longer spelled (held_in items beside) (Block b ∷ []) p old new e broken)
 
 -- what a turn knows about the passage, the cutter, the source and the slots
-pub record IsAt {W X B S : Type 0} (spelled : W → Given X B → List ℕ) (left : S → SlotView → Option (Stream X B)) (packets : S → ℕ) (is_open : S → Bool) (first p : Passage W) (cut : Cutting) (beside : List X) (start source : S) (old now : Slot → SlotView) : Type 0 where
+pub record IsAt {W X B S : Type 0} (spelled : W → Given X B → List ℕ) (left : S → SlotView → Option (Stream X B)) (packets : S → ℕ) (is_open : S →
+    Bool) (first p : Passage W) (cut : Cutting) (beside : List X) (start source : S) (old now : Slot → SlotView) : Type 0 where
   pub done : List (Given X B)
   pub passes : Passes spelled done first p old now
   pub whole : left start (old slots.Capture) ≡ option_map (with_all (done ++ held_in cut.held beside)) (left source (now slots.Capture))
@@ -157,8 +174,10 @@ pub record IsAt {W X B S : Type 0} (spelled : W → Given X B → List ℕ) (lef
   pub capture_name : (now slots.Capture).name ≡ (old slots.Capture).name
   pub others : (s : Slot) → s ≢ slots.Out → s ≢ slots.Report → s ≢ slots.Capture → now s ≡ old s
 
-pub at_begins : {W X B S : Type 0} (spelled : W → Given X B → List ℕ) (left : S → SlotView → Option (Stream X B)) (packets : S → ℕ) (is_open : S → Bool) (first : Passage W) (cut : Cutting) (beside : List X) (limit : ℕ) (source : S) (old : Slot → SlotView) →
-    IsFresh first → cut ≡ record { limit = limit; added = 0; held = [] } → beside ≡ [] → packets source ≡ 0 → is_open source ≡ true → IsAt spelled left packets is_open first first cut beside source source old old
+pub at_begins : {W X B S : Type 0} (spelled : W → Given X B → List ℕ) (left : S → SlotView → Option (Stream X B)) (packets : S → ℕ) (is_open : S →
+    Bool) (first : Passage W) (cut : Cutting) (beside : List X) (limit : ℕ) (source : S) (old : Slot → SlotView) →
+    IsFresh first → cut ≡ record { limit = limit; added = 0; held = [] } → beside ≡ [] → packets source ≡ 0 → is_open source ≡ true →
+        IsAt spelled left packets is_open first first cut beside source source old old
 at_begins spelled left packets is_open first cut beside limit source old fresh new nothing none_given asked =
     let none = fresh.records in
     let gone = fresh.dropped in
@@ -196,11 +215,14 @@ numbered (Packet r x) n few within = omega arith
 numbered (Block b) n few within = omega arith
 
 -- more was given, and taken
-pub at_goes_on : {W X B S : Type 0} → CountsInARow → (spelled : W → Given X B → List ℕ) (left : S → SlotView → Option (Stream X B)) (packets taken : S → ℕ) (is_open : S → Bool) (first p p' : Passage W) (cut cut' : Cutting) (beside beside' : List X) (start source source' : S) (x : Given X B)
+pub at_goes_on : {W X B S : Type 0} → CountsInARow → (spelled : W → Given X B → List ℕ) (left : S → SlotView → Option (Stream X B)) (packets taken : S → ℕ) (is_open : S →
+    Bool) (first p p' : Passage W) (cut cut' : Cutting) (beside beside' : List X) (start source source' : S) (x : Given X B)
     (old mid now new : Slot → SlotView) →
-    IsAt spelled left packets is_open first p cut beside start source old mid → GivesNext left packets taken x source source' (mid slots.Capture) (now slots.Capture) → is_open source' ≡ true → (mid slots.Capture).faults ≤ (now slots.Capture).faults →
+    IsAt spelled left packets is_open first p cut beside start source old mid → GivesNext left packets taken x source source' (mid slots.Capture) (now slots.Capture) → is_open source' ≡ true →
+        (mid slots.Capture).faults ≤ (now slots.Capture).faults →
     (now slots.Capture).name ≡ (mid slots.Capture).name → ((s : Slot) → s ≢ slots.Capture → now s ≡ mid s) →
-    Takes spelled cut beside cut' beside' x p p' now new → ((s : Slot) → s ≢ slots.Out → s ≢ slots.Report → new s ≡ now s) → IsAt spelled left packets is_open first p' cut' beside' start source' old new
+    Takes spelled cut beside cut' beside' x p p' now new → ((s : Slot) → s ≢ slots.Out → s ≢ slots.Report → new s ≡ now s) →
+        IsAt spelled left packets is_open first p' cut' beside' start source' old new
 at_goes_on {B = B} law spelled left packets taken is_open first p p' cut cut' beside beside' start source source' x old mid now new at gives asked later name around takes beyond =
     let capture : new slots.Capture ≡ now slots.Capture = beyond slots.Capture capture_is_not_out capture_is_not_report in
     let here : packets source ≡ cut.added = at.at in
@@ -220,7 +242,8 @@ at_goes_on {B = B} law spelled left packets taken is_open first p p' cut cut' be
           let before = at.number in
           let row : length (records_in (held ++ x ∷ [])) ≡ length (records_in (takes.ran ++ held')) = ap (λ l. length (records_in l)) takes.row in
           let front = packets_among held x in
-          let back : length (records_in (takes.ran ++ held')) ≡ length (records_in takes.ran) + length (records_in held') = ap length (records-append takes.ran held') ∙ length-append (records_in takes.ran) (records_in held') in
+          let back : length (records_in (takes.ran ++ held')) ≡ length (records_in takes.ran) + length (records_in held') =
+              ap length (records-append takes.ran held') ∙ length-append (records_in takes.ran) (records_in held') in
           let few : length (records_in held) ≡ length cut.held = ap length (records_held B cut.held beside at.as_many) ∙ length-map cut.held (λ i. i.packet) in
           let few' : length (records_in held') ≡ length cut'.held = ap length (records_held B cut'.held beside' takes.as_many) ∙ length-map cut'.held (λ i. i.packet) in
           omega arith;
@@ -234,9 +257,11 @@ at_goes_on {B = B} law spelled left packets taken is_open first p p' cut cut' be
     }
 
 -- nothing more comes, and the open burst ran
-at_last : {W X B S : Type 0} → CountsInARow → (spelled : W → Given X B → List ℕ) (left : S → SlotView → Option (Stream X B)) (packets : S → ℕ) (is_open : S → Bool) (first p : Passage W) (cut : Cutting) (beside : List X) (start source : S) (fault : Option FormatFault) (run : Passage W × Option FormatFault)
+at_last : {W X B S : Type 0} → CountsInARow → (spelled : W → Given X B → List ℕ) (left : S → SlotView → Option (Stream X B)) (packets : S → ℕ) (is_open : S →
+    Bool) (first p : Passage W) (cut : Cutting) (beside : List X) (start source : S) (fault : Option FormatFault) (run : Passage W × Option FormatFault)
     (old mid now new : Slot → SlotView) → IsAt spelled left packets is_open first p cut beside start source old mid →
-    IfSome (left source (mid slots.Capture)) (λ s. s ≡ record { given = []; fault = fault }) → IfSome fault (λ f. ¬ IsOpeningFault f) → Puts [] [] mid now → Ends spelled (held_in cut.held beside) p fault now new run →
+    IfSome (left source (mid slots.Capture)) (λ s. s ≡ record { given = []; fault = fault }) → IfSome fault (λ f. ¬ IsOpeningFault f) → Puts [] [] mid now →
+        Ends spelled (held_in cut.held beside) p fault now new run →
     RunsAll spelled first (left start (old slots.Capture)) old new run
 at_last law spelled left packets is_open first p cut beside start source fault run old mid now new at empty kind reads ends =
     runs_all spelled first run (left start (old slots.Capture)) (left source (mid slots.Capture)) (at.done ++ held_in cut.held beside) old new
@@ -244,14 +269,18 @@ at_last law spelled left packets is_open first p cut beside start source fault r
     (subst (λ f. IfSome (left source (mid slots.Capture)) (λ s. s ≡ record { given = []; fault = f })) (sym ends.told) empty) (subst (λ f. IfSome f (λ x. ¬ IsOpeningFault x)) (sym ends.told) kind)
     (still_within spelled (held_in cut.held beside) p run.0 now new ends.passes at.within)
 
-pub at_end : {W X B S : Type 0} → CountsInARow → (spelled : W → Given X B → List ℕ) (left : S → SlotView → Option (Stream X B)) (packets : S → ℕ) (is_open : S → Bool) (first p : Passage W) (cut : Cutting) (beside : List X) (start source : S) (run : Passage W × Option FormatFault)
+pub at_end : {W X B S : Type 0} → CountsInARow → (spelled : W → Given X B → List ℕ) (left : S → SlotView → Option (Stream X B)) (packets : S → ℕ) (is_open : S →
+    Bool) (first p : Passage W) (cut : Cutting) (beside : List X) (start source : S) (run : Passage W × Option FormatFault)
     (old mid now new : Slot → SlotView) → IsAt spelled left packets is_open first p cut beside start source old mid →
-    IfSome (left source (mid slots.Capture)) (λ s. s ≡ record { given = []; fault = None }) → (mid slots.Capture).faults ≤ (now slots.Capture).faults → ((s : Slot) → s ≢ slots.Capture → now s ≡ mid s) → Ends spelled (held_in cut.held beside) p None now new run →
+    IfSome (left source (mid slots.Capture)) (λ s. s ≡ record { given = []; fault = None }) → (mid slots.Capture).faults ≤ (now slots.Capture).faults →
+        ((s : Slot) → s ≢ slots.Capture → now s ≡ mid s) → Ends spelled (held_in cut.held beside) p None now new run →
     RunsAll spelled first (left start (old slots.Capture)) old new run
-at_end law spelled left packets is_open first p cut beside start source run old mid now new at empty later around ends = at_last law spelled left packets is_open first p cut beside start source None run old mid now new at empty tt (puts_read mid now later around) ends
+at_end law spelled left packets is_open first p cut beside start source run old mid now new at empty later around ends =
+    at_last law spelled left packets is_open first p cut beside start source None run old mid now new at empty tt (puts_read mid now later around) ends
 
 -- the next record couldn't be read: a fault ends the capture
-pub at_stop : {W X B S : Type 0} → CountsInARow → (spelled : W → Given X B → List ℕ) (left : S → SlotView → Option (Stream X B)) (packets : S → ℕ) (is_open : S → Bool) (first p : Passage W) (cut : Cutting) (beside : List X) (start source : S) (refusal : SourceFault) (run : Passage W × Option FormatFault)
+pub at_stop : {W X B S : Type 0} → CountsInARow → (spelled : W → Given X B → List ℕ) (left : S → SlotView → Option (Stream X B)) (packets : S → ℕ) (is_open : S →
+    Bool) (first p : Passage W) (cut : Cutting) (beside : List X) (start source : S) (refusal : SourceFault) (run : Passage W × Option FormatFault)
     (old mid now new : Slot → SlotView) → IsAt spelled left packets is_open first p cut beside start source old mid →
     ((fault : FormatFault) → refusal ≡ refusals.Format fault → RefusesNext left fault source (mid slots.Capture)) →
     (mid slots.Capture).faults ≤ (now slots.Capture).faults → ((s : Slot) → s ≢ slots.Capture → now s ≡ mid s) → StopEnds spelled (held_in cut.held beside) p refusal now new run →
@@ -262,19 +291,24 @@ at_stop law spelled left packets is_open first p cut beside start source refusal
 at_stop law spelled left packets is_open first p cut beside start source refusals.OutOfMemory run old mid now new at refused later around ends = absurd ends
 
 -- the open burst was broken off
-pub at_end_break : {W X B S : Type 0} (spelled : W → Given X B → List ℕ) (left : S → SlotView → Option (Stream X B)) (packets : S → ℕ) (is_open : S → Bool) (first p : Passage W) (cut : Cutting) (beside : List X) (start source : S) (e : RunFault)
+pub at_end_break : {W X B S : Type 0} (spelled : W → Given X B → List ℕ) (left : S → SlotView → Option (Stream X B)) (packets : S → ℕ) (is_open : S →
+    Bool) (first p : Passage W) (cut : Cutting) (beside : List X) (start source : S) (e : RunFault)
     (old mid now new : Slot → SlotView) → IsAt spelled left packets is_open first p cut beside start source old mid →
-    (mid slots.Capture).faults ≤ (now slots.Capture).faults → ((s : Slot) → s ≢ slots.Capture → now s ≡ mid s) → PassBreaks spelled (held_in cut.held beside) p now new e → RunBreaks spelled first (left start (old slots.Capture)) old new e
+    (mid slots.Capture).faults ≤ (now slots.Capture).faults → ((s : Slot) → s ≢ slots.Capture → now s ≡ mid s) → PassBreaks spelled (held_in cut.held beside) p now new e →
+        RunBreaks spelled first (left start (old slots.Capture)) old new e
 at_end_break spelled left packets is_open first p cut beside start source e old mid now new at later around broken =
     breaks_run spelled first (left start (old slots.Capture)) (left source (mid slots.Capture)) (at.done ++ held_in cut.held beside) old new e at.whole
     (breaks_next spelled at.done (held_in cut.held beside) first p old now new e (passes_read spelled at.done first p old mid now at.passes (puts_read mid now later around)) broken)
 
 -- the same if the next record couldn't be read
-pub at_stop_break : {W X B S : Type 0} (spelled : W → Given X B → List ℕ) (left : S → SlotView → Option (Stream X B)) (packets : S → ℕ) (is_open : S → Bool) (first p : Passage W) (cut : Cutting) (beside : List X) (start source : S) (refusal : SourceFault) (e : RunFault)
+pub at_stop_break : {W X B S : Type 0} (spelled : W → Given X B → List ℕ) (left : S → SlotView → Option (Stream X B)) (packets : S → ℕ) (is_open : S →
+    Bool) (first p : Passage W) (cut : Cutting) (beside : List X) (start source : S) (refusal : SourceFault) (e : RunFault)
     (old mid now new : Slot → SlotView) → IsAt spelled left packets is_open first p cut beside start source old mid →
     (refusal ≡ refusals.ReadFault → IsRisen (mid slots.Capture).faults (now slots.Capture).faults) →
-    (mid slots.Capture).faults ≤ (now slots.Capture).faults → ((s : Slot) → s ≢ slots.Capture → now s ≡ mid s) → StopBreaks spelled (held_in cut.held beside) p refusal now new e → RunBreaks spelled first (left start (old slots.Capture)) old new e
-at_stop_break spelled left packets is_open first p cut beside start source (refusals.Format fault) e old mid now new at rose later around broken = at_end_break spelled left packets is_open first p cut beside start source e old mid now new at later around broken
+    (mid slots.Capture).faults ≤ (now slots.Capture).faults → ((s : Slot) → s ≢ slots.Capture → now s ≡ mid s) → StopBreaks spelled (held_in cut.held beside) p refusal now new e →
+        RunBreaks spelled first (left start (old slots.Capture)) old new e
+at_stop_break spelled left packets is_open first p cut beside start source (refusals.Format fault) e old mid now new at rose later around broken =
+    at_end_break spelled left packets is_open first p cut beside start source e old mid now new at later around broken
 at_stop_break spelled left packets is_open first p cut beside start source refusals.ReadFault e old mid now new at rose later around broken =
     subst (λ x. RunBreaks spelled first (left start (old slots.Capture)) old new x) (sym broken.0) (subst (λ s. RunBreaks spelled first (left start (old slots.Capture)) old s faults.ReadFault) (sym broken.1)
     (at_end_break spelled left packets is_open first p cut beside start source faults.ReadFault old mid mid now at (omega arith) (λ s c. refl) (breaks_none _ _ mid now faults.ReadFault (puts_read mid now later around) (rose refl))))
@@ -283,7 +317,8 @@ at_stop_break spelled left packets is_open first p cut beside start source refus
     (at_end_break spelled left packets is_open first p cut beside start source faults.OutOfMemory old mid mid now at (omega arith) (λ s c. refl) (breaks_none _ _ mid now faults.OutOfMemory (puts_read mid now later around) tt)))
 
 -- the part that was taken next was broken off
-pub at_take_break : {W X B S : Type 0} (spelled : W → Given X B → List ℕ) (left : S → SlotView → Option (Stream X B)) (packets taken : S → ℕ) (is_open : S → Bool) (first p : Passage W) (cut : Cutting) (beside : List X) (start source source' : S) (x : Given X B) (e : RunFault)
+pub at_take_break : {W X B S : Type 0} (spelled : W → Given X B → List ℕ) (left : S → SlotView → Option (Stream X B)) (packets taken : S → ℕ) (is_open : S →
+    Bool) (first p : Passage W) (cut : Cutting) (beside : List X) (start source source' : S) (x : Given X B) (e : RunFault)
     (old mid now new : Slot → SlotView) → IsAt spelled left packets is_open first p cut beside start source old mid →
     GivesNext left packets taken x source source' (mid slots.Capture) (now slots.Capture) → (mid slots.Capture).faults ≤ (now slots.Capture).faults → ((s : Slot) → s ≢ slots.Capture → now s ≡ mid s) →
     TakeBreaks spelled cut beside x p now new e → RunBreaks spelled first (left start (old slots.Capture)) old new e

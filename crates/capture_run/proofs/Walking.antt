@@ -21,7 +21,8 @@ pieces_more b pieces [] ys = refl
 pieces_more b pieces (x ∷ xs) ys = pieces_more b (long b x.time 1 pieces x.frame).pieces xs ys
 
 -- the same among several chains
-among_more : {F : Type 0} (b : Behaviour F) (chains : List (List (Piece F))) (xs ys : List Classed) → fates_among b chains (xs ++ ys) ≡ fates_among b chains xs ++ fates_among b (chains_after b chains xs) ys
+among_more : {F : Type 0} (b : Behaviour F) (chains : List (List (Piece F))) (xs ys : List Classed) →
+    fates_among b chains (xs ++ ys) ≡ fates_among b chains xs ++ fates_among b (chains_after b chains xs) ys
 unfolding fates_among chains_after
 among_more b chains [] ys = refl
 among_more b chains (x ∷ xs) ys = ap (λ l. (served b chains x.class x.packet).fate ∷ l) (among_more b (served b chains x.class x.packet).chains xs ys)

@@ -8,7 +8,7 @@ use Rattle.command_words.specs.declared.usage.UsageFault.{UsageFault}
 use Rattle.command_words.specs.declared.usage.UsageFault.TheVariants as fault
 use Rattle.command_words.specs.Roles.{Role, anything, is_whole, names_in, options_in, roles}
 use Rattle.command_words.specs.Given.{Word, contains, has_text, value_given}
-use Rattle.command_words.specs.WhyWords.{WhyAsked, WhyFiles, why_with}
+use Rattle.command_words.specs.WhyWords.{WhyAsked, why_with}
 use Rattle.command_words.specs.Words.{Answer, Names, demo_with, flows_with, plan_with, run_with}
 
 -- the words after this command have no fault, and these are their matches

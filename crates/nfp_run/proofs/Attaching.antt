@@ -37,13 +37,15 @@ behind_first : (first : Bool) (new : Slot → SlotView) → ¬ (first ≡ true) 
 behind_first true new behind both = absurd (behind refl)
 behind_first false new behind both = both
 
-ended_attaches : (totals : Totals) (fault : Option FormatFault) (new : Slot → SlotView) → IfSome fault (λ f. ¬ IsOpeningFault f) → BothAttached new → RunAttaches (outcome_seen (closed totals fault)) new
+ended_attaches : (totals : Totals) (fault : Option FormatFault) (new : Slot → SlotView) → IfSome fault (λ f. ¬ IsOpeningFault f) → BothAttached new →
+    RunAttaches (outcome_seen (closed totals fault)) new
 ended_attaches totals None new behind both = both
 ended_attaches totals (Some (formats.Pcap fault)) new behind both = behind_head fault new behind both
 ended_attaches totals (Some (formats.Ng fault)) new behind both = behind_first (is_of_first_block fault) new behind both
 
 -- a capture that was opened ran, whole or not
-pub run_attaches : (r : Result Ended RunFault) (old new : Slot → SlotView) → IfOk r (λ ended. IfSome ended.fault (λ f. ¬ IsOpeningFault f)) → IfErr r (IsBroken old new) → RunLeavesAttached r new → RunAttaches (outcome_seen (ending_of r)) new
+pub run_attaches : (r : Result Ended RunFault) (old new : Slot → SlotView) → IfOk r (λ ended. IfSome ended.fault (λ f. ¬ IsOpeningFault f)) → IfErr r (IsBroken old new) → RunLeavesAttached r new →
+    RunAttaches (outcome_seen (ending_of r)) new
 run_attaches (Ok ended) old new behind broken both = ended_attaches ended.totals ended.fault new behind both
 run_attaches (Err faults.ReadFault) old new behind broken left = tt
 run_attaches (Err (faults.WriteFault slots.Policy)) old new behind broken left = tt

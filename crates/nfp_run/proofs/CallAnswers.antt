@@ -46,7 +46,8 @@ leaves_to due old mid new p q (a, b) = (subst (LeavesSlot due.out (old slots.Out
 prefixes_to : (due : Files) (old mid new : Slot → SlotView) → new slots.Out ≡ mid slots.Out → new slots.Report ≡ mid slots.Report → LeavesPrefixes due old mid → LeavesPrefixes due old new
 prefixes_to due old mid new p q (a, b) = (subst (LeavesPrefix due.out (old slots.Out)) (sym p) a, subst (LeavesPrefix due.report (old slots.Report)) (sym q) b)
 
-due_here : (due : Due) (old mid new : Slot → SlotView) (ended : Ending) (result : Outcome) → new slots.Out ≡ mid slots.Out → new slots.Report ≡ mid slots.Report → result ≡ outcome_seen ended → EndsDue due old mid ended → IsDue due old new result
+due_here : (due : Due) (old mid new : Slot → SlotView) (ended : Ending) (result : Outcome) → new slots.Out ≡ mid slots.Out → new slots.Report ≡ mid slots.Report → result ≡ outcome_seen ended →
+    EndsDue due old mid ended → IsDue due old new result
 due_here due old mid new ended result p q is ends = record { answer = is ∙ ends.answer; left = leaves_to due.written old mid new p q ends.left }
 
 untold_final : (outcome : Outcome) → IsFinal (untold outcome) → untold outcome ≡ outcome
@@ -206,7 +207,8 @@ pub called_noted : (command : Result Command UsageFault) (old mid new : Slot →
     WhereRead command old (λ p g c. AppendsPrefix (note_due result (due_of_command command p g c).note) (old slots.Note) (new slots.Note))
 called_noted command old mid new ended result called some = by_notes called.notes
   where
-    by_notes : Notes ended (mid slots.Note) (new slots.Note) result → WhereRead command old (λ p g c. AppendsPrefix (note_due result (due_of_command command p g c).note) (old slots.Note) (new slots.Note))
+    by_notes : Notes ended (mid slots.Note) (new slots.Note) result →
+        WhereRead command old (λ p g c. AppendsPrefix (note_due result (due_of_command command p g c).note) (old slots.Note) (new slots.Note))
     by_notes (inl (is, a)) = if_read command old _ _
         (λ p g c t. prefix_here (text_of ended) (note_due result (due_of_command command p g c).note) (old slots.Note) (mid slots.Note) (new slots.Note) called.ran.note_stays
         (t ∙ ap (λ o. note_due o (due_of_command command p g c).note) (sym is)) (prefix_whole (text_of ended) (mid slots.Note) (new slots.Note) a))

@@ -92,7 +92,8 @@ flows_to (WriteFault slots.Capture) mid new p q h = ap (λ v. v.name) q ∙ h
 flows_to (WriteFault slots.Graph) mid new p q h = ap (λ v. v.name) q ∙ h
 flows_to OutOfMemory mid new p q h = ap (λ v. v.name) q ∙ h
 
-attaches_to : (command : Result Command UsageFault) (outcome : Outcome) (mid new : Slot → SlotView) → new slots.Out ≡ mid slots.Out → new slots.Report ≡ mid slots.Report → AttachesDue command outcome mid → AttachesDue command outcome new
+attaches_to : (command : Result Command UsageFault) (outcome : Outcome) (mid new : Slot → SlotView) → new slots.Out ≡ mid slots.Out → new slots.Report ≡ mid slots.Report →
+    AttachesDue command outcome mid → AttachesDue command outcome new
 attaches_to (Ok (Run names options)) outcome mid new p q h = run_to outcome mid new p q h
 attaches_to (Ok (Plan name)) outcome mid new p q h = none_to mid new p q h
 attaches_to (Ok (Demo input options)) outcome mid new p q h = none_to mid new p q h
@@ -238,8 +239,10 @@ called_usage_always command old mid new ended result called fault e = by_notes c
     by_notes (inr (inl (is, a))) = inr is
     by_notes (inr (inr (is, r, a))) = elim seen [ inl u ↦ inl (is ∙ ap untold u) | inr m ↦ inr (is ∙ ap untold m) ]
 
-pub called_read_whole : (command : Result Command UsageFault) (old mid new : Slot → SlotView) (ended : Ending) (result : Outcome) → Called command old mid new ended result → result ≡ Done → ReadsToEnd command new
-called_read_whole command old mid new ended result called e = to_end command mid new (called.beside slots.Policy policy_beside) (called.beside slots.Graph graph_beside) (called.beside slots.Capture capture_beside)
+pub called_read_whole : (command : Result Command UsageFault) (old mid new : Slot → SlotView) (ended : Ending) (result : Outcome) → Called command old mid new ended result → result ≡ Done →
+    ReadsToEnd command new
+called_read_whole command old mid new ended result called e =
+    to_end command mid new (called.beside slots.Policy policy_beside) (called.beside slots.Graph graph_beside) (called.beside slots.Capture capture_beside)
     (called.ran.drained (seen_before ended result Done (mid slots.Note) (new slots.Note) called.notes e (λ h. cc) (λ h. cc)))
 
 capture_name : (mid new : Slot → SlotView) → new slots.Capture ≡ mid slots.Capture → (mid slots.Capture).name ≡ None → (new slots.Capture).name ≡ None
@@ -263,8 +266,10 @@ called_graph_refused command old mid new ended result called fault e =
       no_capture = capture_name mid new (called.beside slots.Capture capture_beside) cause.no_capture;
     }
 
-read_to : (command : Result Command UsageFault) (old mid new : Slot → SlotView) (s : Slot) → ((x : Slot) → x ≢ slots.Note → new x ≡ mid x) → ReadFaultCause command old mid s → ReadFaultCause command old new s
-read_to command old mid new slots.Policy beside h = (h.0, subst (λ v. IsRisen (old slots.Policy).faults v.faults) (sym (beside slots.Policy policy_beside)) h.1, capture_name mid new (beside slots.Capture capture_beside) h.2)
+read_to : (command : Result Command UsageFault) (old mid new : Slot → SlotView) (s : Slot) → ((x : Slot) → x ≢ slots.Note → new x ≡ mid x) → ReadFaultCause command old mid s →
+    ReadFaultCause command old new s
+read_to command old mid new slots.Policy beside h =
+    (h.0, subst (λ v. IsRisen (old slots.Policy).faults v.faults) (sym (beside slots.Policy policy_beside)) h.1, capture_name mid new (beside slots.Capture capture_beside) h.2)
 read_to command old mid new slots.Capture beside h = (h.0, subst (λ v. IsRisen (old slots.Capture).faults v.faults) (sym (beside slots.Capture capture_beside)) h.1)
 read_to command old mid new slots.Out beside h = h
 read_to command old mid new slots.Report beside h = h
@@ -337,7 +342,8 @@ called_report_behind command old mid new ended result called = by called.ran.rep
     by (inl free) = inl (ap (λ v. v.name) (called.beside slots.Report report_beside) ∙ free)
     by (inr out) = inr (subst (λ v. IsSome v.name) (sym (called.beside slots.Out out_beside)) out)
 
-pub called_attached : (command : Result Command UsageFault) (old mid new : Slot → SlotView) (ended : Ending) (result : Outcome) → Called command old mid new ended result → AttachesDue command result new
+pub called_attached : (command : Result Command UsageFault) (old mid new : Slot → SlotView) (ended : Ending) (result : Outcome) → Called command old mid new ended result →
+    AttachesDue command result new
 called_attached command old mid new ended result called = by_notes called.notes
   where
     here : AttachesDue command (outcome_seen ended) new
@@ -348,7 +354,8 @@ called_attached command old mid new ended result called = by_notes called.notes
     by_notes (inr (inl (is, a))) = subst (λ o. AttachesDue command o new) (sym is) (attaches_unmade command (outcome_seen ended) new here)
     by_notes (inr (inr (is, r, a))) = subst (λ o. AttachesDue command o new) (sym is) (attaches_untold command (outcome_seen ended) new here)
 
-pub called_policy : (command : Result Command UsageFault) (old mid new : Slot → SlotView) (ended : Ending) (result : Outcome) → Called command old mid new ended result → ReachesCapture command result old
+pub called_policy : (command : Result Command UsageFault) (old mid new : Slot → SlotView) (ended : Ending) (result : Outcome) → Called command old mid new ended result →
+    ReachesCapture command result old
 called_policy command old mid new ended result called = by_notes called.notes
   where
     by_notes : Notes ended (mid slots.Note) (new slots.Note) result → ReachesCapture command result old

@@ -30,7 +30,8 @@ use Rattle.nfp_run.specs.Closing.{LedWhole}
 use Rattle.nfp_run.specs.Written.{led_pcap, written_of}
 use Rattle.nfp_run.proofs.Formats.{pcap_whole}
 
-pub served_demo : (policy : Judged) (graphs : List (Option Graph)) (chains : Chains) → judged policy_text ≡ Ok policy → graphs ≡ map no_graph policy.policy.chains → chains ≡ service_among policy.policy.chains policy.orders graphs → service_of (judged policy_text) ≡ Some chains
+pub served_demo : (policy : Judged) (graphs : List (Option Graph)) (chains : Chains) → judged policy_text ≡ Ok policy → graphs ≡ map no_graph policy.policy.chains →
+    chains ≡ service_among policy.policy.chains policy.orders graphs → service_of (judged policy_text) ≡ Some chains
 served_demo policy graphs chains good none is = ap service_of good ∙ ap Some (sym (is ∙ ap (service_among policy.policy.chains policy.orders) none))
 
 -- the policy is short
@@ -48,7 +49,8 @@ demo_put chains head order records input old mid new ended head_is records_are i
     (pcap_whole chains head order (Some (whole_body records)) old mid new ended is first rest))
 
 -- what was put has the weight of its bytes
-put_weighs : (bytes : List ℕ) (old new : SlotView) (w : Weight) → ((b : List ℕ) → heavier b no_weight ≡ weight_of b) → new.weight ≡ option_map (heavier bytes) old.weight → old.weight ≡ Some no_weight → new.weight ≡ Some w → w ≡ weight_of bytes
+put_weighs : (bytes : List ℕ) (old new : SlotView) (w : Weight) → ((b : List ℕ) → heavier b no_weight ≡ weight_of b) → new.weight ≡ option_map (heavier bytes) old.weight →
+    old.weight ≡ Some no_weight → new.weight ≡ Some w → w ≡ weight_of bytes
 put_weighs bytes old new w whole put none is = same (sym is ∙ put ∙ ap (option_map (heavier bytes)) none) ∙ whole bytes
   where
     same : Some w ≡ Some (heavier bytes no_weight) → w ≡ heavier bytes no_weight

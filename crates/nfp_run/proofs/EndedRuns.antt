@@ -58,7 +58,8 @@ is_ok : {T : Type 0} (E : Type 0) (x : T) → IsOk {T = T} {E = E} (Ok x)
 is_ok E x = search rules
 
 -- a classic capture whose head was read
-pcap_led : (chains : Chains) (head : CaptureHead) (left : Option Body) (bytes : List ℕ) → is_ng bytes ≡ false → IsSomeAnd left (λ body. capture_of bytes ≡ Ok (head, body)) → IsLed chains (option_map (led_pcap chains head) left) bytes
+pcap_led : (chains : Chains) (head : CaptureHead) (left : Option Body) (bytes : List ℕ) → is_ng bytes ≡ false → IsSomeAnd left (λ body. capture_of bytes ≡ Ok (head, body)) →
+    IsLed chains (option_map (led_pcap chains head) left) bytes
 pcap_led chains head None bytes format whole = absurd whole
 pcap_led chains head (Some body) bytes format whole = record {
   led = led_pcap chains head body;
@@ -72,7 +73,8 @@ ng_due chains bytes (Ok x) good = refl
 ng_due chains bytes (Err fault) good = absurd cc
 
 -- a pcapng capture whose first block was read
-ng_led : (chains : Chains) (left : Option (Stream PacketBeside NgItem)) (bytes : List ℕ) → is_ng bytes ≡ true → left ≡ Some (ng_stream (blocks_of start bytes)) → IsOk (next_of start bytes) → IsLed chains (option_map (led_stream chains) left) bytes
+ng_led : (chains : Chains) (left : Option (Stream PacketBeside NgItem)) (bytes : List ℕ) → is_ng bytes ≡ true → left ≡ Some (ng_stream (blocks_of start bytes)) → IsOk (next_of start bytes) →
+    IsLed chains (option_map (led_stream chains) left) bytes
 ng_led chains left bytes format whole good = record {
   led = led_ng chains (blocks_of start bytes);
   is = ap (option_map (led_stream chains)) whole ∙ ap Some (led_streams chains (blocks_of start bytes));
@@ -123,7 +125,8 @@ if_some : (o : Option Led) (P Q : Led → Type 0) → ((b : Led) → P b → Q b
 if_some None P Q f h = tt
 if_some (Some b) P Q f h = f b h
 
-prefixes_from : (due : Written) (old mid new : Slot → SlotView) → mid slots.Out ≡ old slots.Out → mid slots.Report ≡ old slots.Report → LeavesPrefixes (both due) mid new → LeavesPrefixes (both due) old new
+prefixes_from : (due : Written) (old mid new : Slot → SlotView) → mid slots.Out ≡ old slots.Out → mid slots.Report ≡ old slots.Report → LeavesPrefixes (both due) mid new →
+    LeavesPrefixes (both due) old new
 prefixes_from due old mid new out report (a, b) = (
   subst (λ v. IsUntouched v (new slots.Out) ⊎ HoldsPrefix due.out v (new slots.Out)) out a,
   subst (λ v. IsUntouched v (new slots.Report) ⊎ HoldsPrefix due.report v (new slots.Report)) report b,
@@ -160,12 +163,14 @@ answered totals None = refl
 answered totals (Some (formats.Pcap fault)) = refl
 answered totals (Some (formats.Ng fault)) = refl
 
-noted : (totals : Totals) (fault : Option FormatFault) (fates : List Fate) → totals.records ≡ length fates → totals.dropped ≡ count_by is_gone fates → text_of (closed totals fault) ≡ note_of fault fates
+noted : (totals : Totals) (fault : Option FormatFault) (fates : List Fate) → totals.records ≡ length fates → totals.dropped ≡ count_by is_gone fates →
+    text_of (closed totals fault) ≡ note_of fault fates
 noted totals None fates read dropped = ap (λ n. done_text n totals.dropped) read ∙ ap (λ d. done_text (length fates) d) dropped
 noted totals (Some (formats.Pcap fault)) fates read dropped = refl
 noted totals (Some (formats.Ng fault)) fates read dropped = refl
 
-closed_due : (led : Led) (ended : Ended) (old new : Slot → SlotView) → Counts led.fault led.fates ended → Leaves (both led.written) old new → EndsDue (due_of_led led) old new (closed ended.totals ended.fault)
+closed_due : (led : Led) (ended : Ended) (old new : Slot → SlotView) → Counts led.fault led.fates ended → Leaves (both led.written) old new →
+    EndsDue (due_of_led led) old new (closed ended.totals ended.fault)
 closed_due led ended old new counts left = record {
   answer = answered ended.totals ended.fault ∙ ap outcome_of counts.fault;
   left = left;
@@ -211,5 +216,6 @@ seen_write names options chains left old mid new (Err (faults.WriteFault x)) slo
     broken_write names options chains left old mid new slot s (subst (λ y. IsBroken mid new (faults.WriteFault y)) same cause)
 
 pub run_write_faults : (names : Names) (options : RunOptions) (chains : Chains) (left : Option Led) (old mid new : Slot → SlotView) (r : Result Ended RunFault) (ending : Ending) →
-    Stands names.graph chains left old mid → IfErr r (IsBroken mid new) → ending ≡ ending_of r → (slot : Slot) → outcome_seen ending ≡ WriteFault slot → WriteFaultCause (Ok (Run names options)) old new slot
+    Stands names.graph chains left old mid → IfErr r (IsBroken mid new) → ending ≡ ending_of r → (slot : Slot) → outcome_seen ending ≡ WriteFault slot →
+        WriteFaultCause (Ok (Run names options)) old new slot
 run_write_faults names options chains left old mid new r ending s cause is slot e = seen_write names options chains left old mid new r slot s cause (ap outcome_seen (sym is) ∙ e)

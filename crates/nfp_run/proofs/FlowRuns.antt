@@ -93,7 +93,8 @@ abbrev write_slot : Outcome → Slot
 write_slot (WriteFault s) = s
 write_slot outcome = slots.Out
 
-unopened_due : (names : FlowFiles) (options : FlowOptions) (old new : Slot → SlotView) (outcome : Outcome) → RefusedClassic (old slots.Capture) (new slots.Capture) outcome → IsUntouched (old slots.Out) (new slots.Out) → IsUntouched (old slots.Report) (new slots.Report) →
+unopened_due : (names : FlowFiles) (options : FlowOptions) (old new : Slot → SlotView) (outcome : Outcome) → RefusedClassic (old slots.Capture) (new slots.Capture) outcome →
+    IsUntouched (old slots.Out) (new slots.Out) → IsUntouched (old slots.Report) (new slots.Report) →
     IsFinal outcome → IfSome (old slots.Capture).bytes (λ c. (p g : List ℕ) → EndsDue (due_of_command (asked names options) p g c) old new (Stopped outcome))
 unopened_due names options old new (Capture fault) refused out report final =
     each (old slots.Capture).bytes (λ bytes. capture_of bytes ≡ Err fault) (λ c. (p g : List ℕ) → EndsDue (due_of_command (asked names options) p g c) old new (Stopped (Capture fault)))
@@ -107,7 +108,8 @@ unopened_due names options old new (ReadFault s) refused out report final = absu
 unopened_due names options old new (WriteFault s) refused out report final = absurd refused
 unopened_due names options old new OutOfMemory refused out report final = absurd final
 
-unopened_attaches : (names : FlowFiles) (options : FlowOptions) (old new : Slot → SlotView) (outcome : Outcome) → RefusedClassic (old slots.Capture) (new slots.Capture) outcome → (new slots.Out).name ≡ None → (new slots.Report).name ≡ None → AttachesDue (asked names options) outcome new
+unopened_attaches : (names : FlowFiles) (options : FlowOptions) (old new : Slot → SlotView) (outcome : Outcome) → RefusedClassic (old slots.Capture) (new slots.Capture) outcome →
+    (new slots.Out).name ≡ None → (new slots.Report).name ≡ None → AttachesDue (asked names options) outcome new
 unopened_attaches names options old new (Capture BadMagic) refused out report = (out, report)
 unopened_attaches names options old new (Capture BadVersion) refused out report = (out, report)
 unopened_attaches names options old new (Capture (BadLink link)) refused out report = (out, report)
@@ -124,7 +126,8 @@ unopened_attaches names options old new (ReadFault s) refused out report = repor
 unopened_attaches names options old new (WriteFault s) refused out report = absurd refused
 unopened_attaches names options old new OutOfMemory refused out report = report
 
-unopened_reaches : (names : FlowFiles) (options : FlowOptions) (old new : Slot → SlotView) (outcome : Outcome) → RefusedClassic (old slots.Capture) (new slots.Capture) outcome → ReachesCapture (asked names options) outcome old
+unopened_reaches : (names : FlowFiles) (options : FlowOptions) (old new : Slot → SlotView) (outcome : Outcome) → RefusedClassic (old slots.Capture) (new slots.Capture) outcome →
+    ReachesCapture (asked names options) outcome old
 unopened_reaches names options old new (Capture fault) refused = tt
 unopened_reaches names options old new Done refused = tt
 unopened_reaches names options old new (Usage fault) refused = tt
@@ -147,12 +150,14 @@ unopened_graph old new outcome fault refused is = subst (RefusedClassic old new)
 unopened_write : (old new : SlotView) (outcome : Outcome) (s : Slot) → RefusedClassic old new outcome → outcome ≡ WriteFault s → ⊥
 unopened_write old new outcome s refused is = subst (RefusedClassic old new) is refused
 
-unopened_read : (names : FlowFiles) (options : FlowOptions) (old new : Slot → SlotView) (outcome : Outcome) (s : Slot) → RefusedClassic (old slots.Capture) (new slots.Capture) outcome → outcome ≡ ReadFault s → ReadFaultCause (asked names options) old new s
+unopened_read : (names : FlowFiles) (options : FlowOptions) (old new : Slot → SlotView) (outcome : Outcome) (s : Slot) → RefusedClassic (old slots.Capture) (new slots.Capture) outcome →
+    outcome ≡ ReadFault s → ReadFaultCause (asked names options) old new s
 unopened_read names options old new outcome s refused is =
     let here : RefusedClassic (old slots.Capture) (new slots.Capture) (ReadFault s) = subst (RefusedClassic (old slots.Capture) (new slots.Capture)) is refused in
     subst (ReadFaultCause (asked names options) old new) (sym here.0) (tt, here.1)
 
-pub unopened : (names : FlowFiles) (options : FlowOptions) (old new : Slot → SlotView) (outcome : Outcome) → RefusedClassic (old slots.Capture) (new slots.Capture) outcome → Stays names old new → new slots.Out ≡ old slots.Out → Ran (asked names options) old new (Stopped outcome)
+pub unopened : (names : FlowFiles) (options : FlowOptions) (old new : Slot → SlotView) (outcome : Outcome) → RefusedClassic (old slots.Capture) (new slots.Capture) outcome → Stays names old new →
+    new slots.Out ≡ old slots.Out → Ran (asked names options) old new (Stopped outcome)
 unopened names options old new outcome refused stays same =
     let report : new slots.Report ≡ old slots.Report = stays.others slots.Report report_is_not_out report_is_not_capture in
     let out_untouched : IsUntouched (old slots.Out) (new slots.Out) = untouched_same (old slots.Out) (new slots.Out) (stays.free slots.Out) same in
@@ -188,7 +193,8 @@ pub record Stands (head : CaptureHead) (reader : ReaderState) (old mid : Slot �
   pub later : (old slots.Capture).faults ≤ (mid slots.Capture).faults
 
 -- what the rest of a body that was read says about the bytes of the capture
-said : (unit : TimeUnit) (head : CaptureHead) (left : Option Body) (bytes : List ℕ) (P : Body → Type 0) (Q : Due → Type 0) → IsSomeAnd left (λ body. capture_of bytes ≡ Ok (head, body)) → IfSome left P → ((body : Body) → P body → Q (due_of_body head.unit body)) → Q (due_of_flows (capture_of bytes))
+said : (unit : TimeUnit) (head : CaptureHead) (left : Option Body) (bytes : List ℕ) (P : Body → Type 0) (Q : Due → Type 0) → IsSomeAnd left (λ body. capture_of bytes ≡ Ok (head, body)) →
+    IfSome left P → ((body : Body) → P body → Q (due_of_body head.unit body)) → Q (due_of_flows (capture_of bytes))
 said unit head None bytes P Q whole all f = absurd whole
 said unit head (Some body) bytes P Q whole all f = subst (λ r. Q (due_of_flows r)) (sym whole) (f body all)
 
@@ -205,10 +211,12 @@ ends_prefixes : (unit : TimeUnit) (body : Body) (old new : Slot → SlotView) (r
 ends_prefixes unit body old new (Ok ending) ends = leaves_prefixes (due_of_body unit body).written old new ends.0
 ends_prefixes unit body old new (Err fault) ends = ends
 
-pub counted_prefixes : (names : FlowFiles) (options : FlowOptions) (head : CaptureHead) (reader : ReaderState) (old mid new : Slot → SlotView) (r : Result Ending RunFault) → Stands head reader old mid → IfSome (body_left reader (mid slots.Capture)) (λ body. FlowsEnd head.unit body mid new r) →
+pub counted_prefixes : (names : FlowFiles) (options : FlowOptions) (head : CaptureHead) (reader : ReaderState) (old mid new : Slot → SlotView) (r : Result Ending RunFault) →
+    Stands head reader old mid → IfSome (body_left reader (mid slots.Capture)) (λ body. FlowsEnd head.unit body mid new r) →
     IfSome (old slots.Capture).bytes (λ c. (p g : List ℕ) → LeavesPrefixes (due_of_command (asked names options) p g c).written old new)
 counted_prefixes names options head reader old mid new r stands left =
-    each (old slots.Capture).bytes (λ bytes. IsSomeAnd (body_left reader (mid slots.Capture)) (λ body. capture_of bytes ≡ Ok (head, body))) (λ c. (p g : List ℕ) → LeavesPrefixes (due_of_command (asked names options) p g c).written old new)
+    each (old slots.Capture).bytes (λ bytes. IsSomeAnd (body_left reader (mid slots.Capture)) (λ body. capture_of bytes ≡ Ok (head, body))) (λ c. (p g : List ℕ) →
+        LeavesPrefixes (due_of_command (asked names options) p g c).written old new)
     (λ bytes is p g. said head.unit head (body_left reader (mid slots.Capture)) bytes (λ body. FlowsEnd head.unit body mid new r) (λ due. LeavesPrefixes due.written old new) is left
     (λ body ends. prefixes_from (due_of_body head.unit body).written old mid new stands.same_out stands.same_report (ends_prefixes head.unit body mid new r ends))) stands.whole
 
@@ -220,17 +228,20 @@ ending_notes : (unit : TimeUnit) (body : Body) (f : Option CaptureFault) → tex
 ending_notes unit body None = refl
 ending_notes unit body (Some fault) = refl
 
-body_due : (unit : TimeUnit) (body : Body) (old mid new : Slot → SlotView) (ending : Ending) → mid slots.Out ≡ old slots.Out → mid slots.Report ≡ old slots.Report → FlowsEnd unit body mid new (Ok ending) → EndsDue (due_of_body unit body) old new ending
+body_due : (unit : TimeUnit) (body : Body) (old mid new : Slot → SlotView) (ending : Ending) → mid slots.Out ≡ old slots.Out → mid slots.Report ≡ old slots.Report →
+    FlowsEnd unit body mid new (Ok ending) → EndsDue (due_of_body unit body) old new ending
 body_due unit body old mid new ending out report (left, is) = record {
   answer = ap outcome_seen is ∙ ending_answers unit body body.fault;
   left = leaves_from (due_of_body unit body).written old mid new out report left;
   note = ap text_of is ∙ ending_notes unit body body.fault;
 }
 
-counted_due : (names : FlowFiles) (options : FlowOptions) (head : CaptureHead) (reader : ReaderState) (old mid new : Slot → SlotView) (ending : Ending) → Stands head reader old mid → IfSome (body_left reader (mid slots.Capture)) (λ body. FlowsEnd head.unit body mid new (Ok ending)) →
+counted_due : (names : FlowFiles) (options : FlowOptions) (head : CaptureHead) (reader : ReaderState) (old mid new : Slot → SlotView) (ending : Ending) → Stands head reader old mid →
+    IfSome (body_left reader (mid slots.Capture)) (λ body. FlowsEnd head.unit body mid new (Ok ending)) →
     IfSome (old slots.Capture).bytes (λ c. (p g : List ℕ) → EndsDue (due_of_command (asked names options) p g c) old new ending)
 counted_due names options head reader old mid new ending stands left =
-    each (old slots.Capture).bytes (λ bytes. IsSomeAnd (body_left reader (mid slots.Capture)) (λ body. capture_of bytes ≡ Ok (head, body))) (λ c. (p g : List ℕ) → EndsDue (due_of_command (asked names options) p g c) old new ending)
+    each (old slots.Capture).bytes (λ bytes. IsSomeAnd (body_left reader (mid slots.Capture)) (λ body. capture_of bytes ≡ Ok (head, body))) (λ c. (p g : List ℕ) →
+        EndsDue (due_of_command (asked names options) p g c) old new ending)
     (λ bytes is p g. said head.unit head (body_left reader (mid slots.Capture)) bytes (λ body. FlowsEnd head.unit body mid new (Ok ending)) (λ due. EndsDue due old new ending) is left
     (λ body ends. body_due head.unit body old mid new ending stands.same_out stands.same_report ends)) stands.whole
 
@@ -241,7 +252,8 @@ told_within (Refused refusal) told = absurd told
 told_within (GraphRefused refusal) told = absurd told
 told_within (Completed totals) told = absurd told
 
-told_attaches : (names : FlowFiles) (options : FlowOptions) (new : Slot → SlotView) (ending : Ending) → FlowsEndTold ending → IsSome (new slots.Out).name → (new slots.Report).name ≡ None → AttachesDue (asked names options) (outcome_seen ending) new
+told_attaches : (names : FlowFiles) (options : FlowOptions) (new : Slot → SlotView) (ending : Ending) → FlowsEndTold ending → IsSome (new slots.Out).name → (new slots.Report).name ≡ None →
+    AttachesDue (asked names options) (outcome_seen ending) new
 told_attaches names options new (Shown text) told out report = (out, report)
 told_attaches names options new (Stopped (Capture BadMagic)) told out report = absurd (told tt)
 told_attaches names options new (Stopped (Capture BadVersion)) told out report = absurd (told tt)
@@ -294,8 +306,10 @@ counted_reaches names options old (ReadFault s) is = absurd is
 counted_reaches names options old (WriteFault s) is = absurd is
 counted_reaches names options old OutOfMemory is = absurd is
 
-pub exported : (names : FlowFiles) (options : FlowOptions) (head : CaptureHead) (reader : ReaderState) (old mid new : Slot → SlotView) (ending : Ending) → Stands head reader old mid → Stays names old new → FlowsEndTold ending → IsSome (new slots.Out).name →
-    (outcome_seen ending ≡ Done → IsReadWhole (new slots.Capture)) → IfSome (body_left reader (mid slots.Capture)) (λ body. FlowsEnd head.unit body mid new (Ok ending)) → Ran (asked names options) old new ending
+pub exported : (names : FlowFiles) (options : FlowOptions) (head : CaptureHead) (reader : ReaderState) (old mid new : Slot → SlotView) (ending : Ending) → Stands head reader old mid →
+    Stays names old new → FlowsEndTold ending → IsSome (new slots.Out).name →
+    (outcome_seen ending ≡ Done → IsReadWhole (new slots.Capture)) → IfSome (body_left reader (mid slots.Capture)) (λ body. FlowsEnd head.unit body mid new (Ok ending)) →
+        Ran (asked names options) old new ending
 exported names options head reader old mid new ending stands stays told out drained left =
     let counted : IsCounted (outcome_seen ending) = told_counted ending told in
     record {
@@ -323,7 +337,8 @@ pub risen_from : (a b c : ℕ) → a ≤ b → IsRisen b c → IsRisen a c
 risen_from a b c later (inl less) = inl (omega (arith, later, less))
 risen_from a b c later (inr end) = inr end
 
-has_head : (o : Option (List ℕ)) (head : CaptureHead) (left : Option Body) → IfSome o (λ bytes. IsSomeAnd left (λ body. capture_of bytes ≡ Ok (head, body))) → IfSome o (λ bytes. IsOk (capture_of bytes))
+has_head : (o : Option (List ℕ)) (head : CaptureHead) (left : Option Body) → IfSome o (λ bytes. IsSomeAnd left (λ body. capture_of bytes ≡ Ok (head, body))) →
+    IfSome o (λ bytes. IsOk (capture_of bytes))
 has_head None head left whole = tt
 has_head (Some bytes) head None whole = absurd whole
 has_head (Some bytes) head (Some body) whole = subst IsOk (sym whole) (good (head, body))
@@ -331,12 +346,15 @@ has_head (Some bytes) head (Some body) whole = subst IsOk (sym whole) (good (hea
     good : (x : CaptureHead × Body) → IsOk {T = CaptureHead × Body} {E = CaptureFault} (Ok x)
     good x = search rules
 
-broken_read : (names : FlowFiles) (options : FlowOptions) (old mid new : Slot → SlotView) (fault : RunFault) (s : Slot) → (old slots.Capture).faults ≤ (mid slots.Capture).faults → FlowsBroken mid new fault → broken_by fault ≡ ReadFault s → ReadFaultCause (asked names options) old new s
-broken_read names options old mid new faults.ReadFault s later cause is = subst (ReadFaultCause (asked names options) old new) (ap read_slot is) (tt, risen_from (old slots.Capture).faults (mid slots.Capture).faults (new slots.Capture).faults later cause)
+broken_read : (names : FlowFiles) (options : FlowOptions) (old mid new : Slot → SlotView) (fault : RunFault) (s : Slot) → (old slots.Capture).faults ≤ (mid slots.Capture).faults →
+    FlowsBroken mid new fault → broken_by fault ≡ ReadFault s → ReadFaultCause (asked names options) old new s
+broken_read names options old mid new faults.ReadFault s later cause is =
+    subst (ReadFaultCause (asked names options) old new) (ap read_slot is) (tt, risen_from (old slots.Capture).faults (mid slots.Capture).faults (new slots.Capture).faults later cause)
 broken_read names options old mid new (faults.WriteFault t) s later cause is = absurd cc
 broken_read names options old mid new faults.OutOfMemory s later cause is = absurd cc
 
-broken_write : (names : FlowFiles) (options : FlowOptions) (head : CaptureHead) (reader : ReaderState) (old mid new : Slot → SlotView) (fault : RunFault) (s : Slot) → Stands head reader old mid → FlowsBroken mid new fault → broken_by fault ≡ WriteFault s → WriteFaultCause (asked names options) old new s
+broken_write : (names : FlowFiles) (options : FlowOptions) (head : CaptureHead) (reader : ReaderState) (old mid new : Slot → SlotView) (fault : RunFault) (s : Slot) → Stands head reader old mid →
+    FlowsBroken mid new fault → broken_by fault ≡ WriteFault s → WriteFaultCause (asked names options) old new s
 broken_write names options head reader old mid new faults.ReadFault s stands cause is = absurd cc
 broken_write names options head reader old mid new faults.OutOfMemory s stands cause is = absurd cc
 broken_write names options head reader old mid new (faults.WriteFault slots.Out) s stands cause is =
@@ -347,7 +365,8 @@ broken_write names options head reader old mid new (faults.WriteFault slots.Repo
 broken_write names options head reader old mid new (faults.WriteFault slots.Note) s stands cause is = absurd cause
 broken_write names options head reader old mid new (faults.WriteFault slots.Graph) s stands cause is = absurd cause
 
-broken_attaches : (names : FlowFiles) (options : FlowOptions) (mid new : Slot → SlotView) (fault : RunFault) → FlowsBroken mid new fault → (new slots.Report).name ≡ None → AttachesDue (asked names options) (broken_by fault) new
+broken_attaches : (names : FlowFiles) (options : FlowOptions) (mid new : Slot → SlotView) (fault : RunFault) → FlowsBroken mid new fault → (new slots.Report).name ≡ None →
+    AttachesDue (asked names options) (broken_by fault) new
 broken_attaches names options mid new faults.ReadFault cause report = report
 broken_attaches names options mid new faults.OutOfMemory cause report = report
 broken_attaches names options mid new (faults.WriteFault slots.Out) cause report = report
@@ -384,7 +403,8 @@ not_final faults.ReadFault final = final
 not_final (faults.WriteFault s) final = final
 not_final faults.OutOfMemory final = final
 
-pub broken : (names : FlowFiles) (options : FlowOptions) (head : CaptureHead) (reader : ReaderState) (old mid new : Slot → SlotView) (fault : RunFault) → Stands head reader old mid → Stays names old new → FlowsBroken mid new fault →
+pub broken : (names : FlowFiles) (options : FlowOptions) (head : CaptureHead) (reader : ReaderState) (old mid new : Slot → SlotView) (fault : RunFault) → Stands head reader old mid →
+    Stays names old new → FlowsBroken mid new fault →
     IfSome (body_left reader (mid slots.Capture)) (λ body. FlowsEnd head.unit body mid new (Err fault)) → Ran (asked names options) old new (Stopped (broken_by fault))
 broken names options head reader old mid new fault stands stays cause left =
     let cut : IsCutOff (broken_by fault) = cut_off mid new fault cause in

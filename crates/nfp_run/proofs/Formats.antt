@@ -80,7 +80,8 @@ led_streams chains blocks =
       fault = option_map formats.Ng blocks.fault;
     }
 
-pub ng_whole : (chains : Chains) (growth : ℕ) (left : Option (Stream PacketBeside NgItem)) (old new : Slot → SlotView) (ended : Ended) → growth ≡ growth_of chains → WritesAll (ng_spelled growth) chains Nano left old new ended → LedWhole (option_map (led_stream chains) left) old new ended
+pub ng_whole : (chains : Chains) (growth : ℕ) (left : Option (Stream PacketBeside NgItem)) (old new : Slot → SlotView) (ended : Ended) → growth ≡ growth_of chains →
+    WritesAll (ng_spelled growth) chains Nano left old new ended → LedWhole (option_map (led_stream chains) left) old new ended
 ng_whole chains growth None old new ended same w = record { goes = w.goes; within = w.within; kind = w.kind; counts = tt; puts = tt }
 ng_whole chains growth (Some s) old new ended same w = record {
   goes = w.goes;
@@ -90,7 +91,8 @@ ng_whole chains growth (Some s) old new ended same w = record {
   puts = subst (λ g. Puts (emitted_among (ng_spelled g) s.given (fates_of chains Nano (records_in s.given))) (report_of chains Nano (records_in s.given) s.fault) old new) same w.puts;
 }
 
-pub ng_partly : (chains : Chains) (growth : ℕ) (left : Option (Stream PacketBeside NgItem)) (old new : Slot → SlotView) (e : RunFault) → growth ≡ growth_of chains → WriteBreaks (ng_spelled growth) chains Nano left old new e → LedPartly (option_map (led_stream chains) left) old new e
+pub ng_partly : (chains : Chains) (growth : ℕ) (left : Option (Stream PacketBeside NgItem)) (old new : Slot → SlotView) (e : RunFault) → growth ≡ growth_of chains →
+    WriteBreaks (ng_spelled growth) chains Nano left old new e → LedPartly (option_map (led_stream chains) left) old new e
 ng_partly chains growth None old new e same w = record { goes = w.goes; cause = w.cause; prefixes = tt }
 ng_partly chains growth (Some s) old new e same w = record {
   goes = w.goes;
@@ -107,13 +109,16 @@ head_first chains head order b same =
     ∙ ap (λ l. head_bytes (written_head chains head) ++ l) (pcap_written order b.records (fates_of chains head.unit b.records))
     ∙ ap (λ o. head_bytes (written_head chains head) ++ emitted_all (record_bytes o) b.records (fates_of chains head.unit b.records)) same
 
-same_report : (chains : Chains) (head : CaptureHead) (b : Body) → report_of chains head.unit (records_in (map pcap_given b.records)) (option_map formats.Pcap b.fault) ≡ (written_of chains head b).report
+same_report : (chains : Chains) (head : CaptureHead) (b : Body) →
+    report_of chains head.unit (records_in (map pcap_given b.records)) (option_map formats.Pcap b.fault) ≡ (written_of chains head b).report
 same_report chains head b = ap (λ rs. report_of chains head.unit rs (option_map formats.Pcap b.fault)) (pcap_records b.records)
 
 goes_behind : (out report : List ℕ) (old mid new : Slot → SlotView) → Puts out report old mid → Goes mid new → Goes old new
-goes_behind out report old mid new puts goes = record { out_name = goes.out_name ∙ puts.in_out.same_name; report_name = goes.report_name ∙ puts.in_report.same_name; later = later_more old mid new puts.later goes.later }
+goes_behind out report old mid new puts goes =
+    record { out_name = goes.out_name ∙ puts.in_out.same_name; report_name = goes.report_name ∙ puts.in_report.same_name; later = later_more old mid new puts.later goes.later }
 
-pub pcap_whole : (chains : Chains) (head : CaptureHead) (order : Endian) (left : Option Body) (old mid new : Slot → SlotView) (ended : Ended) → order ≡ head.order → Puts (head_bytes (written_head chains head)) [] old mid →
+pub pcap_whole : (chains : Chains) (head : CaptureHead) (order : Endian) (left : Option Body) (old mid new : Slot → SlotView) (ended : Ended) → order ≡ head.order →
+    Puts (head_bytes (written_head chains head)) [] old mid →
     WritesAll (pcap_spelled order) chains head.unit (option_map pcap_stream left) mid new ended → LedWhole (option_map (led_pcap chains head) left) old new ended
 pcap_whole chains head order None old mid new ended same first w = record { goes = goes_behind _ _ old mid new first w.goes; within = w.within; kind = w.kind; counts = tt; puts = tt }
 pcap_whole chains head order (Some b) old mid new ended same first w =
@@ -131,7 +136,8 @@ pcap_whole chains head order (Some b) old mid new ended same first w =
           (subst (λ o. Puts o (report_of chains head.unit (records_in (map pcap_given b.records)) (option_map formats.Pcap b.fault)) old new) (head_first chains head order b same) (puts_more _ [] _ _ old mid new first w.puts));
     }
 
-pub pcap_partly : (chains : Chains) (head : CaptureHead) (order : Endian) (left : Option Body) (old mid new : Slot → SlotView) (e : RunFault) → order ≡ head.order → Puts (head_bytes (written_head chains head)) [] old mid →
+pub pcap_partly : (chains : Chains) (head : CaptureHead) (order : Endian) (left : Option Body) (old mid new : Slot → SlotView) (e : RunFault) → order ≡ head.order →
+    Puts (head_bytes (written_head chains head)) [] old mid →
     WriteBreaks (pcap_spelled order) chains head.unit (option_map pcap_stream left) mid new e → LedPartly (option_map (led_pcap chains head) left) old new e
 pcap_partly chains head order None old mid new e same first w = record { goes = goes_behind _ _ old mid new first w.goes; cause = earlier_cause old mid new e first.later w.cause; prefixes = tt }
 pcap_partly chains head order (Some b) old mid new e same first w = record {
@@ -142,7 +148,8 @@ pcap_partly chains head order (Some b) old mid new e same first w = record {
 }
 
 -- the head couldn't be put
-pub at_head : (chains : Chains) (head : CaptureHead) (left : Option Body) (old new : Slot → SlotView) (e : RunFault) → Breaks (head_bytes (written_head chains head)) [] old new e → LedPartly (option_map (led_pcap chains head) left) old new e
+pub at_head : (chains : Chains) (head : CaptureHead) (left : Option Body) (old new : Slot → SlotView) (e : RunFault) → Breaks (head_bytes (written_head chains head)) [] old new e →
+    LedPartly (option_map (led_pcap chains head) left) old new e
 at_head chains head None old new e broken = record {
   goes = record { out_name = broken.prefixes.in_out.appended.same_name; report_name = broken.prefixes.in_report.appended.same_name; later = broken.prefixes.later };
   cause = broken.cause;

@@ -55,18 +55,21 @@ run_is_done words names options p g c policy head records is good whole =
     ∙ ap (λ b. (due_by_format b (chains_prepared policy) c).outcome) (classic c (head, record { records = records; fault = None }) whole)
     ∙ ap (λ r. (due_of_pcap (chains_prepared policy) r).outcome) whole
 
-first_good : (chains : Chains) (c : List ℕ) (items : List NgItem) (first : Result (Option (NgItem × Place × List ℕ)) NgFault) → IsOk first → blocks_of start c ≡ record { items = items; fault = None } → (due_of_ng chains c first).outcome ≡ Done
+first_good : (chains : Chains) (c : List ℕ) (items : List NgItem) (first : Result (Option (NgItem × Place × List ℕ)) NgFault) → IsOk first →
+    blocks_of start c ≡ record { items = items; fault = None } → (due_of_ng chains c first).outcome ≡ Done
 first_good chains c items (Ok x) good whole = ap (λ blocks. outcome_of (option_map Ng blocks.fault)) whole
 first_good chains c items (Err fault) good whole = absurd cc
 
 pub ng_run_is_done : (words : List (List ℕ)) (names : Names) (options : RunOptions) (p g c : List ℕ) (policy : Prepared) (items : List NgItem) →
-    command_of words ≡ Ok (Run names options) → prepared names.graph p g ≡ Ok policy → is_ng c ≡ true → IsOk (next_of start c) → blocks_of start c ≡ record { items = items; fault = None } → (due words p g c).outcome ≡ Done
+    command_of words ≡ Ok (Run names options) → prepared names.graph p g ≡ Ok policy → is_ng c ≡ true → IsOk (next_of start c) → blocks_of start c ≡ record { items = items; fault = None } →
+        (due words p g c).outcome ≡ Done
 ng_run_is_done words names options p g c policy items is good format first whole =
     ap (λ command. (due_of_command command p g c).outcome) is ∙ ap (λ r. (due_of_run r c).outcome) good
     ∙ ap (λ b. (due_by_format b (chains_prepared policy) c).outcome) format
     ∙ first_good (chains_prepared policy) c items (next_of start c) first whole
 
-pub plan_is_done : (words : List (List ℕ)) (names : PlanFiles) (p g c : List ℕ) (policy : Prepared) → command_of words ≡ Ok (Plan names) → prepared names.graph p g ≡ Ok policy → (due words p g c).outcome ≡ Done
+pub plan_is_done : (words : List (List ℕ)) (names : PlanFiles) (p g c : List ℕ) (policy : Prepared) → command_of words ≡ Ok (Plan names) → prepared names.graph p g ≡ Ok policy →
+    (due words p g c).outcome ≡ Done
 plan_is_done words names p g c policy is good = ap (λ command. (due_of_command command p g c).outcome) is ∙ ap (λ r. (due_of_plan r).outcome) good
 
 pub demo_is_done : (words : List (List ℕ)) (input : DemoInput) (options : RunOptions) (p g c : List ℕ) → command_of words ≡ Ok (Demo input options) → (due words p g c).outcome ≡ Done

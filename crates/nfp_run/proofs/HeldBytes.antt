@@ -24,10 +24,12 @@ holds_all slot text bytes old mid new written attached put = record {
 }
 
 pub holds_prefix : (slot : Slot) (text bytes : List ℕ) (old mid new : SlotView) → is_read slot ≡ false → Attaches slot text old mid → AppendsPrefix bytes mid new → HoldsPrefix bytes old new
-holds_prefix slot text bytes old mid new written attached put = record { done = put.done; rest = put.rest; parts = put.parts; holds = holds_all slot text put.done old mid new written attached put.appended }
+holds_prefix slot text bytes old mid new written attached put =
+    record { done = put.done; rest = put.rest; parts = put.parts; holds = holds_all slot text put.done old mid new written attached put.appended }
 
 pub holds_none : (slot : Slot) (text bytes : List ℕ) (old new : SlotView) → is_read slot ≡ false → Attaches slot text old new → HoldsPrefix bytes old new
-holds_none slot text bytes old new written attached = record { done = []; rest = bytes; parts = refl; holds = record { attached = is_named text new.name attached.named; content = content_of slot text old new written attached } }
+holds_none slot text bytes old new written attached =
+    record { done = []; rest = bytes; parts = refl; holds = record { attached = is_named text new.name attached.named; content = content_of slot text old new written attached } }
 
 pub whole_prefix : (bytes : List ℕ) (old new : SlotView) → Holds bytes old new → HoldsPrefix bytes old new
 whole_prefix bytes old new h = record { done = bytes; rest = []; parts = sym (append-nil bytes); holds = h }

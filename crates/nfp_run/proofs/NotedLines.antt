@@ -51,7 +51,8 @@ IsTold old mid note written text =
     ⊎ ((s : Slot) × (s ≢ slots.Note) × IsRisen (old s).faults (mid s).faults × (text ≡ write_fault_text s))
     ⊎ (text ≡ [])
 
-due_told : (command : Result Command UsageFault) (old mid : Slot → SlotView) (ended : Ending) → Ran command old mid ended → IsFinal (outcome_seen ended) → WhereRead command old (λ p g c. IsTold old mid (due_of_command command p g c).note (due_of_command command p g c).written (text_of ended))
+due_told : (command : Result Command UsageFault) (old mid : Slot → SlotView) (ended : Ending) → Ran command old mid ended → IsFinal (outcome_seen ended) →
+    WhereRead command old (λ p g c. IsTold old mid (due_of_command command p g c).note (due_of_command command p g c).written (text_of ended))
 due_told command old mid ended ran final = if_read command old _ _ (λ p g c ends. inl (ends.note, ends.left)) (ran.due final)
 
 -- a fault of a slot comes only if its count rose, and it isn't Note's
@@ -63,7 +64,8 @@ risen_reading command old mid slots.Report h = absurd h
 risen_reading command old mid slots.Note h = absurd h
 risen_reading command old mid slots.Graph h = (graph_beside, h.risen)
 
-risen_writing : (command : Result Command UsageFault) (old mid : Slot → SlotView) (s : Slot) → s ≢ slots.Note → WriteFaultCause command old mid s → (s ≢ slots.Note) × IsRisen (old s).faults (mid s).faults
+risen_writing : (command : Result Command UsageFault) (old mid : Slot → SlotView) (s : Slot) → s ≢ slots.Note → WriteFaultCause command old mid s →
+    (s ≢ slots.Note) × IsRisen (old s).faults (mid s).faults
 risen_writing command old mid slots.Out other h = (out_beside, h.1)
 risen_writing command old mid slots.Report other h = (report_beside, h.1)
 risen_writing command old mid slots.Note other h = absurd (other refl)
@@ -71,7 +73,8 @@ risen_writing command old mid slots.Policy other h = absurd h
 risen_writing command old mid slots.Capture other h = absurd h
 risen_writing command old mid slots.Graph other h = absurd h
 
-told_text : (command : Result Command UsageFault) (old mid : Slot → SlotView) (ended : Ending) → Ran command old mid ended → WhereRead command old (λ p g c. IsTold old mid (due_of_command command p g c).note (due_of_command command p g c).written (text_of ended))
+told_text : (command : Result Command UsageFault) (old mid : Slot → SlotView) (ended : Ending) → Ran command old mid ended →
+    WhereRead command old (λ p g c. IsTold old mid (due_of_command command p g c).note (due_of_command command p g c).written (text_of ended))
 told_text command old mid (Completed totals) ran = due_told command old mid (Completed totals) ran tt
 told_text command old mid (Shown text) ran = due_told command old mid (Shown text) ran tt
 told_text command old mid (Refused refusal) ran = due_told command old mid (Refused refusal) ran tt
@@ -82,7 +85,8 @@ told_text command old mid (Stopped (Policy fault)) ran = due_told command old mi
 told_text command old mid (Stopped (Graph fault)) ran = due_told command old mid (Stopped (Graph fault)) ran tt
 told_text command old mid (Stopped (Capture fault)) ran = due_told command old mid (Stopped (Capture fault)) ran tt
 told_text command old mid (Stopped (CaptureNg fault)) ran = due_told command old mid (Stopped (CaptureNg fault)) ran tt
-told_text command old mid (Stopped (ReadFault s)) ran = read_always command old _ (λ p g c. inr (inl (s, (risen_reading command old mid s (ran.read_faults s refl)).0, (risen_reading command old mid s (ran.read_faults s refl)).1, refl)))
+told_text command old mid (Stopped (ReadFault s)) ran =
+    read_always command old _ (λ p g c. inr (inl (s, (risen_reading command old mid s (ran.read_faults s refl)).0, (risen_reading command old mid s (ran.read_faults s refl)).1, refl)))
 told_text command old mid (Stopped (WriteFault s)) ran = read_always command old _ (λ p g c. inr (inr (inl (s, (risen_writing command old mid s (λ e. ran.no_note_fault (ap WriteFault e)) (ran.write_faults s refl)).0, (risen_writing command old mid s (λ e. ran.no_note_fault (ap WriteFault e)) (ran.write_faults s refl)).1, refl))))
 told_text command old mid (Stopped OutOfMemory) ran = read_always command old _ (λ p g c. inr (inr (inr refl)))
 
@@ -94,7 +98,8 @@ nothing_before : (old new : SlotView) → AppendsPrefix [] old new → Appends [
 nothing_before old new a = subst (λ d. Appends d old new) (nothing_in_front a.done a.rest a.parts) a.appended
 
 -- the slots beside Note, and Note before its line, are those in the middle
-prefix_told : (note text : List ℕ) (written : Files) (old mid new : Slot → SlotView) → mid slots.Note ≡ old slots.Note → ((s : Slot) → s ≢ slots.Note → new s ≡ mid s) → IsTold old mid note written text → AppendsPrefix text (mid slots.Note) (new slots.Note) →
+prefix_told : (note text : List ℕ) (written : Files) (old mid new : Slot → SlotView) → mid slots.Note ≡ old slots.Note → ((s : Slot) → s ≢ slots.Note → new s ≡ mid s) →
+    IsTold old mid note written text → AppendsPrefix text (mid slots.Note) (new slots.Note) →
     NotesPrefix note written old new
 prefix_told note text written old mid new stays beside told a = by told
   where
@@ -121,7 +126,8 @@ called_noted_short command old mid new ended result called short = if_read comma
     by_notes (inr (inl (is, a))) = a
     by_notes (inr (inr (is, r, a))) = a
 
-pub called_noted_late : (command : Result Command UsageFault) (old mid new : Slot → SlotView) (ended : Ending) (result : Outcome) → Called command old mid new ended result → result ≡ OutOfMemory → NoneRose old new →
+pub called_noted_late : (command : Result Command UsageFault) (old mid new : Slot → SlotView) (ended : Ending) (result : Outcome) → Called command old mid new ended result → result ≡ OutOfMemory →
+    NoneRose old new →
     WhereRead command old (λ p g c. Leaves (due_of_command command p g c).written old new ⊎ Appends [] (old slots.Note) (new slots.Note))
 called_noted_late command old mid new ended result called short none = if_read command old _ _
     (λ p g c notes. by (due_of_command command p g c).note (due_of_command command p g c).written notes)

@@ -73,7 +73,8 @@ none_shown [] (o ∷ orders) all = absurd all
 none_shown (c ∷ chains) [] all = absurd all
 none_shown (c ∷ chains) (o ∷ orders) all = (tt, none_shown chains orders all.1)
 
-pub ready_alone : (policy : Judged) (graphs : List (Option StagedGraph)) → AllZip IsOrdered policy.policy.chains policy.orders → policy.functions ≡ functions_made policy.policy.chains → length policy.policy.chains ≤ 16 →
+pub ready_alone : (policy : Judged) (graphs : List (Option StagedGraph)) → AllZip IsOrdered policy.policy.chains policy.orders → policy.functions ≡ functions_made policy.policy.chains →
+    length policy.policy.chains ≤ 16 →
     graphs ≡ map no_graph policy.policy.chains → IsReady (record { judged = policy; graphs = graphs })
 ready_alone policy graphs ordered made few is = record {
   ordered = ordered;
@@ -84,7 +85,8 @@ ready_alone policy graphs ordered made few is = record {
 }
 
 pub none_prepares : (old new : Slot → SlotView) (policy : Judged) (r : Result Prepared Ending) → IfSome (old slots.Policy).bytes (λ bytes. judged bytes ≡ Ok policy) →
-    IfOk r (λ p. p ≡ record { judged = policy; graphs = map no_graph policy.policy.chains }) → IfErr r (λ ending. ending ≡ Stopped OutOfMemory) → MatchResult r (Prepares None old) (EndsAtTexts None old new)
+    IfOk r (λ p. p ≡ record { judged = policy; graphs = map no_graph policy.policy.chains }) → IfErr r (λ ending. ending ≡ Stopped OutOfMemory) →
+        MatchResult r (Prepares None old) (EndsAtTexts None old new)
 none_prepares old new policy (Ok p) told is short = record {
   policy = has_policy old policy told;
   told = texts_by_policy None old _ _ (λ b g good. ap (λ r. prepared_by None r g) good ∙ ap Ok (sym is)) told;
@@ -126,7 +128,8 @@ shown_each (c ∷ chains) (o ∷ orders) (None ∷ graphs) all many staged full 
 shown_each (c ∷ chains) (o ∷ orders) (Some g ∷ graphs) all many staged full =
     ((full 0 g refl, staged 0 g refl), shown_each chains orders graphs all.1 (omega (arith, many)) (λ i. staged (suc i)) (λ i. full (suc i)))
 
-pub ready_with : (policy : Judged) (graphs : List (Option StagedGraph)) → AllZip IsOrdered policy.policy.chains policy.orders → policy.functions ≡ functions_made policy.policy.chains → length policy.policy.chains ≤ 16 →
+pub ready_with : (policy : Judged) (graphs : List (Option StagedGraph)) → AllZip IsOrdered policy.policy.chains policy.orders → policy.functions ≡ functions_made policy.policy.chains →
+    length policy.policy.chains ≤ 16 →
     length graphs ≡ length policy.policy.chains → EachGraph (λ chain g. IsLawful g chain) policy.policy.chains policy.orders graphs →
     EachGraph (λ chain g. IsStaged chain 1 g.stages (suc (length chain))) policy.policy.chains policy.orders graphs → EachGraph (λ chain g. IsFull g) policy.policy.chains policy.orders graphs →
     IsReady (record { judged = policy; graphs = graphs })
@@ -144,32 +147,38 @@ long_graphs policy text long =
     let beyond : nat_lt 1048576 (length text) ≡ true = grind (arith, nat_tests) in
     ap (λ b. if b then Err graph.TooLong else graphs_of_bytes text policy.policy.chains policy.orders) beyond
 
-pub graph_refused_ends : (policy : Judged) (old new : SlotView) (fault : GraphFault) (ending : Ending) → IfSome old.bytes (λ text. graphs_of text policy.policy.chains policy.orders ≡ Err fault) → GraphRefusedBy policy fault ending → EndsAtGraph policy old new ending
+pub graph_refused_ends : (policy : Judged) (old new : SlotView) (fault : GraphFault) (ending : Ending) → IfSome old.bytes (λ text. graphs_of text policy.policy.chains policy.orders ≡ Err fault) →
+    GraphRefusedBy policy fault ending → EndsAtGraph policy old new ending
 graph_refused_ends policy old new fault ending told (inl is) = subst (EndsAtGraph policy old new) (sym is) (if_told old.bytes _ _ (λ text due. ap (prepared_with policy) due) told)
 graph_refused_ends policy old new fault ending told (inr short) = subst (EndsAtGraph policy old new) (sym short) tt
 
-pub unread_graph_ends : (policy : Judged) (old new : SlotView) (unread : Unread) (ending : Ending) → IsUnread 1048576 old new unread → UnreadGraphEnds policy unread ending → EndsAtGraph policy old new ending
+pub unread_graph_ends : (policy : Judged) (old new : SlotView) (unread : Unread) (ending : Ending) → IsUnread 1048576 old new unread → UnreadGraphEnds policy unread ending →
+    EndsAtGraph policy old new ending
 unread_graph_ends policy old new TooLong ending is ends = graph_refused_ends policy old new graph.TooLong ending (if_told old.bytes _ _ (λ text long. long_graphs policy text long) is) ends
 unread_graph_ends policy old new Failed ending is ends = subst (EndsAtGraph policy old new) (sym ends) (refl, is)
 unread_graph_ends policy old new NoMemory ending is ends = subst (EndsAtGraph policy old new) (sym ends) tt
 
 -- what was read is what the desk shows
-pub told_graphs : (policy : Judged) (old : SlotView) (read : List ℕ) (due : Result (List (Option StagedGraph)) GraphFault) → IfSome old.bytes (λ text. text ≡ read) → graphs_of read policy.policy.chains policy.orders ≡ due →
+pub told_graphs : (policy : Judged) (old : SlotView) (read : List ℕ) (due : Result (List (Option StagedGraph)) GraphFault) → IfSome old.bytes (λ text. text ≡ read) →
+    graphs_of read policy.policy.chains policy.orders ≡ due →
     IfSome old.bytes (λ text. graphs_of text policy.policy.chains policy.orders ≡ due)
 told_graphs policy old read due is given = if_told old.bytes _ _ (λ text e. ap (λ t. graphs_of t policy.policy.chains policy.orders) e ∙ given) is
 
-pub graphs_prepared : (policy : Judged) (old : SlotView) (read : List ℕ) (graphs : List (Option StagedGraph)) → IfSome old.bytes (λ text. text ≡ read) → graphs_of read policy.policy.chains policy.orders ≡ Ok graphs →
+pub graphs_prepared : (policy : Judged) (old : SlotView) (read : List ℕ) (graphs : List (Option StagedGraph)) → IfSome old.bytes (λ text. text ≡ read) →
+    graphs_of read policy.policy.chains policy.orders ≡ Ok graphs →
     IfSome old.bytes (λ text. prepared_with policy (graphs_of text policy.policy.chains policy.orders) ≡ Ok (record { judged = policy; graphs = graphs }))
 graphs_prepared policy old read graphs is given = if_told old.bytes _ _ (λ text due. ap (prepared_with policy) due) (told_graphs policy old read (Ok graphs) is given)
 
 -- both texts, stated for their slots as they were before either was read
-both_told : (old : Slot → SlotView) (name : List ℕ) (policy : Judged) (graphs : SlotView) (due : Result Prepared Unprepared) → graphs ≡ old slots.Graph → IfSome (old slots.Policy).bytes (λ bytes. judged bytes ≡ Ok policy) →
+both_told : (old : Slot → SlotView) (name : List ℕ) (policy : Judged) (graphs : SlotView) (due : Result Prepared Unprepared) → graphs ≡ old slots.Graph →
+    IfSome (old slots.Policy).bytes (λ bytes. judged bytes ≡ Ok policy) →
     IfSome graphs.bytes (λ text. prepared_with policy (graphs_of text policy.policy.chains policy.orders) ≡ due) → WhereTexts (Some name) old (λ p g. prepared (Some name) p g ≡ due)
 both_told old name policy graphs due same told given = if_told (old slots.Policy).bytes _ _
     (λ b good. if_told (old slots.Graph).bytes _ _ (λ t is. ap (λ r. prepared_by (Some name) r t) good ∙ is) (subst (λ v. IfSome v.bytes (λ text. prepared_with policy (graphs_of text policy.policy.chains policy.orders) ≡ due)) same given))
     told
 
-named_ends : (name : List ℕ) (old new : Slot → SlotView) (policy : Judged) (before : SlotView) (ending : Ending) → before ≡ old slots.Graph → IfSome (old slots.Policy).bytes (λ bytes. judged bytes ≡ Ok policy) →
+named_ends : (name : List ℕ) (old new : Slot → SlotView) (policy : Judged) (before : SlotView) (ending : Ending) → before ≡ old slots.Graph →
+    IfSome (old slots.Policy).bytes (λ bytes. judged bytes ≡ Ok policy) →
     EndsAtGraph policy before (new slots.Graph) ending → EndsAtTexts (Some name) old new ending
 named_ends name old new policy before (GraphRefused refusal) same told h = record { name = name; is = refl; policy = has_policy old policy told; told = both_told old name policy before _ same told h }
 named_ends name old new policy before (Stopped (ReadFault s)) same told h =
@@ -187,7 +196,8 @@ named_ends name old new policy before (Refused refusal) same told h = absurd h
 named_ends name old new policy before (Completed totals) same told h = absurd h
 named_ends name old new policy before (Shown text) same told h = absurd h
 
-pub named_prepares : (name : List ℕ) (old new : Slot → SlotView) (policy : Judged) (before : SlotView) (r : Result Prepared Ending) → before ≡ old slots.Graph → IfSome (old slots.Policy).bytes (λ bytes. judged bytes ≡ Ok policy) →
+pub named_prepares : (name : List ℕ) (old new : Slot → SlotView) (policy : Judged) (before : SlotView) (r : Result Prepared Ending) → before ≡ old slots.Graph →
+    IfSome (old slots.Policy).bytes (λ bytes. judged bytes ≡ Ok policy) →
     MatchResult r (λ p. IfSome before.bytes (λ text. prepared_with policy (graphs_of text policy.policy.chains policy.orders) ≡ Ok p)) (EndsAtGraph policy before (new slots.Graph)) →
     MatchResult r (Prepares (Some name) old) (EndsAtTexts (Some name) old new)
 named_prepares name old new policy before (Ok p) same told given = record { policy = has_policy old policy told; told = both_told old name policy before (Ok p) same told given }

@@ -32,13 +32,15 @@ pub policy_whole : (new : Slot → SlotView) (r : Result Prepared Ending) → Is
 policy_whole new (Ok p) policy = policy
 policy_whole new (Err ending) policy = tt
 
-pub texts_whole : (name : List ℕ) (mid new : Slot → SlotView) (r : Result Prepared Ending) → new slots.Policy ≡ mid slots.Policy → IsReadWhole (mid slots.Policy) → IfOk r (λ p. IsReadWhole (new slots.Graph)) →
+pub texts_whole : (name : List ℕ) (mid new : Slot → SlotView) (r : Result Prepared Ending) → new slots.Policy ≡ mid slots.Policy → IsReadWhole (mid slots.Policy) →
+    IfOk r (λ p. IsReadWhole (new slots.Graph)) →
     IfOk r (λ p. AreTextsReadWhole (Some name) new)
 texts_whole name mid new (Ok p) same policy graph = (subst IsReadWhole (sym same) policy, graph)
 texts_whole name mid new (Err ending) same policy graph = tt
 
 -- both stay as they were read
-pub texts_to : (named : Option (List ℕ)) (mid new : Slot → SlotView) → new slots.Policy ≡ mid slots.Policy → new slots.Graph ≡ mid slots.Graph → AreTextsReadWhole named mid → AreTextsReadWhole named new
+pub texts_to : (named : Option (List ℕ)) (mid new : Slot → SlotView) → new slots.Policy ≡ mid slots.Policy → new slots.Graph ≡ mid slots.Graph → AreTextsReadWhole named mid →
+    AreTextsReadWhole named new
 texts_to None mid new policy graph h = subst IsReadWhole (sym policy) h
 texts_to (Some name) mid new policy graph (p, g) = (subst IsReadWhole (sym policy) p, subst IsReadWhole (sym graph) g)
 
@@ -77,11 +79,13 @@ ended_drained (Err (faults.WriteFault s)) slot drained done = absurd cc
 ended_drained (Err faults.OutOfMemory) slot drained done = absurd cc
 
 -- a capture whose flows were counted was read to its end, or has a fault
-flows_drained : (records : ℕ) (lines : List FlowLine) (fault : Option CaptureFault) (slot : SlotView) → IfNone fault (IsReadWhole slot) → outcome_seen (flows_ending records lines fault) ≡ Done → IsReadWhole slot
+flows_drained : (records : ℕ) (lines : List FlowLine) (fault : Option CaptureFault) (slot : SlotView) → IfNone fault (IsReadWhole slot) → outcome_seen (flows_ending records lines fault) ≡ Done →
+    IsReadWhole slot
 flows_drained records lines None slot drained done = drained
 flows_drained records lines (Some fault) slot drained done = absurd cc
 
-pub exported_drained : (records : ℕ) (lines : List FlowLine) (fault : Option CaptureFault) (mid new : SlotView) (r : Result Ending RunFault) → new ≡ mid → IfNone fault (IsReadWhole mid) → IfOk r (λ ending. ending ≡ flows_ending records lines fault) →
+pub exported_drained : (records : ℕ) (lines : List FlowLine) (fault : Option CaptureFault) (mid new : SlotView) (r : Result Ending RunFault) → new ≡ mid → IfNone fault (IsReadWhole mid) →
+    IfOk r (λ ending. ending ≡ flows_ending records lines fault) →
     IfOk r (λ ending. outcome_seen ending ≡ Done → IsReadWhole new)
 exported_drained records lines fault mid new (Ok ending) same drained is = λ done. subst IsReadWhole (sym same) (flows_drained records lines fault mid drained (ap outcome_seen (sym is) ∙ done))
 exported_drained records lines fault mid new (Err e) same drained is = tt
@@ -89,7 +93,8 @@ exported_drained records lines fault mid new (Err e) same drained is = tt
 -- ---- all three
 
 -- the line in Note touches none of them
-pub to_end : (command : Result Command UsageFault) (mid new : Slot → SlotView) → new slots.Policy ≡ mid slots.Policy → new slots.Graph ≡ mid slots.Graph → new slots.Capture ≡ mid slots.Capture → ReadsToEnd command mid → ReadsToEnd command new
+pub to_end : (command : Result Command UsageFault) (mid new : Slot → SlotView) → new slots.Policy ≡ mid slots.Policy → new slots.Graph ≡ mid slots.Graph → new slots.Capture ≡ mid slots.Capture →
+    ReadsToEnd command mid → ReadsToEnd command new
 to_end (Ok (Run names options)) mid new policy graph capture (texts, whole) = (texts_to names.graph mid new policy graph texts, subst IsReadWhole (sym capture) whole)
 to_end (Ok (Plan names)) mid new policy graph capture texts = texts_to names.graph mid new policy graph texts
 to_end (Ok (Demo input options)) mid new policy graph capture h = tt

@@ -91,7 +91,8 @@ opening_due chains (Policy fault) old new final refused = absurd refused
 opening_due chains (Graph fault) old new final refused = absurd refused
 opening_due chains (WriteFault s) old new final refused = absurd refused
 
-opening_ends : (outcome : Outcome) (due : Due) (old new : Slot → SlotView) → IsUntouched (old slots.Out) (new slots.Out) × IsUntouched (old slots.Report) (new slots.Report) → IsOpeningDue outcome due → EndsDue due old new (Stopped outcome)
+opening_ends : (outcome : Outcome) (due : Due) (old new : Slot → SlotView) → IsUntouched (old slots.Out) (new slots.Out) × IsUntouched (old slots.Report) (new slots.Report) →
+    IsOpeningDue outcome due → EndsDue due old new (Stopped outcome)
 opening_ends (Capture fault) due old new left is = subst (λ d. EndsDue d old new (Stopped (Capture fault))) (sym is) (record { answer = refl; left = left; note = refl })
 opening_ends (CaptureNg fault) due old new left is = subst (λ d. EndsDue d old new (Stopped (CaptureNg fault))) (sym is) (record { answer = refl; left = left; note = refl })
 opening_ends Done due old new left is = absurd is
@@ -102,7 +103,8 @@ opening_ends (ReadFault s) due old new left is = absurd is
 opening_ends (WriteFault s) due old new left is = absurd is
 opening_ends OutOfMemory due old new left is = absurd is
 
-pub unopened_due : (names : Names) (options : RunOptions) (chains : Chains) (outcome : Outcome) (old new : Slot → SlotView) → IsUntouched (old slots.Out) (new slots.Out) × IsUntouched (old slots.Report) (new slots.Report) →
+pub unopened_due : (names : Names) (options : RunOptions) (chains : Chains) (outcome : Outcome) (old new : Slot → SlotView) →
+    IsUntouched (old slots.Out) (new slots.Out) × IsUntouched (old slots.Report) (new slots.Report) →
     Serves names.graph old chains → RefusedOpening (old slots.Capture) (new slots.Capture) outcome → IsFinal outcome →
     WhereRead (Ok (Run names options)) old (λ p g c. EndsDue (due_of_command (Ok (Run names options)) p g c) old new (Stopped outcome))
 unopened_due names options chains outcome old new left serves refused final = if_texts names.graph old _ _
@@ -111,7 +113,8 @@ unopened_due names options chains outcome old new left serves refused final = if
     (opening_due chains outcome old new final refused))
     serves.runs
 
-pub unopened_reaches : (names : Names) (options : RunOptions) (chains : Chains) (outcome : Outcome) (old new : Slot → SlotView) → Serves names.graph old chains → RefusedOpening (old slots.Capture) (new slots.Capture) outcome →
+pub unopened_reaches : (names : Names) (options : RunOptions) (chains : Chains) (outcome : Outcome) (old new : Slot → SlotView) → Serves names.graph old chains →
+    RefusedOpening (old slots.Capture) (new slots.Capture) outcome →
     ReachesCapture (Ok (Run names options)) outcome old
 unopened_reaches names options chains (Capture fault) old new serves refused = has_texts names.graph old chains serves
 unopened_reaches names options chains (CaptureNg fault) old new serves refused = has_texts names.graph old chains serves
@@ -126,7 +129,8 @@ unopened_reaches names options chains (WriteFault s) old new serves refused = ab
 same_slot : (a c : Slot) → ReadFault a ≡ ReadFault c → a ≡ c
 same_slot a c x = cc
 
-pub unopened_read : (names : Names) (options : RunOptions) (chains : Chains) (outcome : Outcome) (old new : Slot → SlotView) (s : Slot) → Serves names.graph old chains → RefusedOpening (old slots.Capture) (new slots.Capture) outcome →
+pub unopened_read : (names : Names) (options : RunOptions) (chains : Chains) (outcome : Outcome) (old new : Slot → SlotView) (s : Slot) → Serves names.graph old chains →
+    RefusedOpening (old slots.Capture) (new slots.Capture) outcome →
     outcome ≡ ReadFault s → ReadFaultCause (Ok (Run names options)) old new s
 unopened_read names options chains outcome old new s serves refused is =
     let here : RefusedOpening (old slots.Capture) (new slots.Capture) (ReadFault s) = subst (RefusedOpening (old slots.Capture) (new slots.Capture)) is refused in

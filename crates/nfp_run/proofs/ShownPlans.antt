@@ -69,7 +69,8 @@ plan_reaches names old new (Completed totals) h = absurd h
 plan_reaches names old new (Shown text) h = absurd h
 
 -- the state after a plan
-pub plan_ran : (names : PlanFiles) (old new : Slot → SlotView) (ending : Ending) → ((s : Slot) → (old s).name ≡ None) → ((new slots.Policy).name ≡ None) ⊎ ((new slots.Policy).name ≡ Some names.policy) →
+pub plan_ran : (names : PlanFiles) (old new : Slot → SlotView) (ending : Ending) → ((s : Slot) → (old s).name ≡ None) →
+    ((new slots.Policy).name ≡ None) ⊎ ((new slots.Policy).name ≡ Some names.policy) →
     ((new slots.Graph).name ≡ None) ⊎ ((new slots.Graph).name ≡ names.graph) → ((s : Slot) → s ≢ slots.Policy → s ≢ slots.Graph → new s ≡ old s) → PlanEnds names.graph old new ending →
     (outcome_seen ending ≡ Done → ReadsToEnd (Ok (Plan names)) new) → Ran (Ok (Plan names)) old new ending
 plan_ran names old new ending free policy graph others ends whole = go ending ends whole
@@ -113,7 +114,8 @@ plan_ran names old new ending free policy graph others ends whole = go ending en
     go (Completed totals) h drained = absurd h
 
 -- the state after a demo
-pub demo_ran : (input : DemoInput) (options : RunOptions) (old : Slot → SlotView) (ending : Ending) → ((s : Slot) → (old s).name ≡ None) → DemoEnds input ending → Ran (Ok (Demo input options)) old old ending
+pub demo_ran : (input : DemoInput) (options : RunOptions) (old : Slot → SlotView) (ending : Ending) → ((s : Slot) → (old s).name ≡ None) → DemoEnds input ending →
+    Ran (Ok (Demo input options)) old old ending
 demo_ran input options old ending free ends = go ending ends
   where
     left : IsUntouched (old slots.Out) (old slots.Out) × IsUntouched (old slots.Report) (old slots.Report)
@@ -189,7 +191,8 @@ pub none_shown : (chains : List ChainPolicy) (orders : List Order) (graphs : Lis
 none_shown chains orders graphs = record { due = refl }
 
 pub one_shown : (chains : List ChainPolicy) (orders : List Order) (graphs : List (Option StagedGraph)) (place : ℕ) (text text' : List ℕ) (c chain : ChainPolicy) (o order : Order) (g graph : Option StagedGraph) →
-    IsShown chains orders graphs place text → place < length chains → place < length orders → place < length graphs → chain ≡ get_or chains place c → order ≡ get_or orders place o → graph ≡ get_or graphs place g →
+    IsShown chains orders graphs place text → place < length chains → place < length orders → place < length graphs → chain ≡ get_or chains place c → order ≡ get_or orders place o →
+        graph ≡ get_or graphs place g →
     text' ≡ text ++ chain_plan chain order.positions graph → IsShown chains orders graphs (place + 1) text'
 one_shown chains orders graphs place text text' c chain o order g graph at inside inside' inside'' is is' is'' more =
     let here : List ℕ = chain_plan chain order.positions graph in
@@ -202,18 +205,21 @@ one_shown chains orders graphs place text text' c chain o order g graph at insid
       due = ap (λ t. t ++ later) more ∙ append_assoc text here later ∙ ap (λ l. text ++ l) (sym head) ∙ at.due;
     }
 
-pub all_shown : (chains : List ChainPolicy) (orders : List Order) (graphs : List (Option StagedGraph)) (place : ℕ) (text : List ℕ) → IsShown chains orders graphs place text → length chains ≤ place → text ≡ plans chains orders graphs
+pub all_shown : (chains : List ChainPolicy) (orders : List Order) (graphs : List (Option StagedGraph)) (place : ℕ) (text : List ℕ) → IsShown chains orders graphs place text → length chains ≤ place →
+    text ≡ plans chains orders graphs
 all_shown chains orders graphs place text at past =
     sym (append-nil text) ∙ ap (λ l. text ++ plans l (drop place orders) (drop place graphs)) (sym (drop_all place chains past)) ∙ at.due
 
 -- each chain has its order at the same place
-ordered_at : (chains : List ChainPolicy) (orders : List Order) (place : ℕ) (c : ChainPolicy) (o : Order) → AllZip IsOrdered chains orders → place < length chains → IsOrdered (get_or chains place c) (get_or orders place o)
+ordered_at : (chains : List ChainPolicy) (orders : List Order) (place : ℕ) (c : ChainPolicy) (o : Order) → AllZip IsOrdered chains orders → place < length chains →
+    IsOrdered (get_or chains place c) (get_or orders place o)
 ordered_at [] orders place c o all inside = absurd (omega arith)
 ordered_at (x ∷ chains) [] place c o all inside = absurd all
 ordered_at (x ∷ chains) (y ∷ orders) zero c o all inside = all.0
 ordered_at (x ∷ chains) (y ∷ orders) (suc place) c o all inside = ordered_at chains orders place c o all.1 (omega arith)
 
-pub ordered_here : (chains chains' : List ChainPolicy) (orders orders' : List Order) (place : ℕ) (chain : ChainPolicy) (order : Order) → chains ≡ chains' → orders ≡ orders' → AllZip IsOrdered chains' orders' →
+pub ordered_here : (chains chains' : List ChainPolicy) (orders orders' : List Order) (place : ℕ) (chain : ChainPolicy) (order : Order) → chains ≡ chains' → orders ≡ orders' →
+    AllZip IsOrdered chains' orders' →
     place < length chains → chain ≡ get_or chains place chain → order ≡ get_or orders place order → IsOrdered chain order
 ordered_here chains chains' orders orders' place chain order same same' all inside is is' =
     let ordered : AllZip IsOrdered chains orders = subst (λ l. AllZip IsOrdered l orders) (sym same) (subst (AllZip IsOrdered chains') (sym same') all) in
@@ -226,7 +232,8 @@ as_many (x ∷ chains) [] all = absurd all
 as_many (x ∷ chains) (y ∷ orders) all = ap suc (as_many chains orders all.1)
 
 -- and its graph, which may be shown
-shown_at : (chains : List ChainPolicy) (orders : List Order) (graphs : List (Option StagedGraph)) (place : ℕ) (c : ChainPolicy) (o : Order) (g : Option StagedGraph) → AllZip IsOrdered chains orders → AllZip IsShownIn (zip chains orders) graphs →
+shown_at : (chains : List ChainPolicy) (orders : List Order) (graphs : List (Option StagedGraph)) (place : ℕ) (c : ChainPolicy) (o : Order) (g : Option StagedGraph) →
+    AllZip IsOrdered chains orders → AllZip IsShownIn (zip chains orders) graphs →
     place < length chains → IsShownIn (get_or chains place c, get_or orders place o) (get_or graphs place g)
 shown_at [] orders graphs place c o g all shown inside = absurd (omega arith)
 shown_at (x ∷ chains) [] graphs place c o g all shown inside = absurd all
@@ -246,7 +253,8 @@ shown_here chains chains' orders orders' graphs graphs' place chain order graph 
     subst (λ c. IsShownIn (c, order) graph) (sym chain_is) (subst (λ o. IsShownIn (get_or chains' place chain, o) graph) (sym order_is)
     (subst (λ g. IsShownIn (get_or chains' place chain, get_or orders' place order) g) (sym graph_is) at))
 
-pub as_many_graphs : (chains : List ChainPolicy) (orders : List Order) (graphs : List (Option StagedGraph)) → AllZip IsOrdered chains orders → AllZip IsShownIn (zip chains orders) graphs → length graphs ≡ length chains
+pub as_many_graphs : (chains : List ChainPolicy) (orders : List Order) (graphs : List (Option StagedGraph)) → AllZip IsOrdered chains orders → AllZip IsShownIn (zip chains orders) graphs →
+    length graphs ≡ length chains
 as_many_graphs [] [] [] all shown = refl
 as_many_graphs [] [] (z ∷ graphs) all shown = absurd shown
 as_many_graphs [] (y ∷ orders) graphs all shown = absurd all

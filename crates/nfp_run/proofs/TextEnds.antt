@@ -94,10 +94,12 @@ refusal_due named old new refusal p g b is = record {
   ends = record { answer = refl; left = leaves_both old new b; note = refl };
 }
 
-graph_due : (named : Option (List ℕ)) (old new : Slot → SlotView) (refusal : GraphRefusal) (p g : List ℕ) → Beside old new → prepared named p g ≡ Err (ByGraph refusal) → IsFaultDue named old new (GraphRefused refusal) p g
+graph_due : (named : Option (List ℕ)) (old new : Slot → SlotView) (refusal : GraphRefusal) (p g : List ℕ) → Beside old new → prepared named p g ≡ Err (ByGraph refusal) →
+    IsFaultDue named old new (GraphRefused refusal) p g
 graph_due named old new refusal p g b is = record { fault = ByGraph refusal; is = is; ends = record { answer = refl; left = leaves_both old new b; note = refl } }
 
-graph_cause : (command : Result Command UsageFault) (named : Option (List ℕ)) (old new : Slot → SlotView) (refusal : GraphRefusal) (fault : GraphFault) → IsTextCommand command named old new → Beside old new →
+graph_cause : (command : Result Command UsageFault) (named : Option (List ℕ)) (old new : Slot → SlotView) (refusal : GraphRefusal) (fault : GraphFault) → IsTextCommand command named old new →
+    Beside old new →
     GraphFails named old refusal → refusal.fault ≡ fault → GraphCause command old new fault
 graph_cause command named old new refusal fault t b fails same = record {
   name = fails.name;
@@ -108,16 +110,19 @@ graph_cause command named old new refusal fault t b fails same = record {
   no_capture = no_capture old new b;
 }
 
-text_cause : (command : Result Command UsageFault) (named : Option (List ℕ)) (old new : Slot → SlotView) (s : Slot) → IsTextCommand command named old new → Beside old new → TextUnread named old new s → ReadFaultCause command old new s
+text_cause : (command : Result Command UsageFault) (named : Option (List ℕ)) (old new : Slot → SlotView) (s : Slot) → IsTextCommand command named old new → Beside old new →
+    TextUnread named old new s → ReadFaultCause command old new s
 text_cause command named old new slots.Policy t b risen = (t.policy, risen, no_capture old new b)
-text_cause command named old new slots.Graph t b unread = record { name = unread.name; named = t.graph unread.name unread.is; policy = unread.policy; risen = unread.risen; no_capture = no_capture old new b }
+text_cause command named old new slots.Graph t b unread =
+    record { name = unread.name; named = t.graph unread.name unread.is; policy = unread.policy; risen = unread.risen; no_capture = no_capture old new b }
 text_cause command named old new slots.Capture t b unread = absurd unread
 text_cause command named old new slots.Out t b unread = absurd unread
 text_cause command named old new slots.Report t b unread = absurd unread
 text_cause command named old new slots.Note t b unread = absurd unread
 
 -- the state after a call that ended so
-pub texts_ran : (command : Result Command UsageFault) (named : Option (List ℕ)) (old new : Slot → SlotView) (ending : Ending) → IsTextCommand command named old new → Beside old new → EndsAtTexts named old new ending → Ran command old new ending
+pub texts_ran : (command : Result Command UsageFault) (named : Option (List ℕ)) (old new : Slot → SlotView) (ending : Ending) → IsTextCommand command named old new → Beside old new →
+    EndsAtTexts named old new ending → Ran command old new ending
 texts_ran command named old new ending t b ends = go ending ends
   where
     prefixes : WhereRead command old (λ p g c. LeavesPrefixes (due_of_command command p g c).written old new)

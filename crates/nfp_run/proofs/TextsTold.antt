@@ -60,7 +60,8 @@ texts_always : (named : Option (List ℕ)) (old : Slot → SlotView) (P : List �
 texts_always named old P f = told_always (old slots.Policy).bytes _ (λ p. named_always named (old slots.Graph).bytes (P p) (f p))
 
 -- what a fact about the policy gives for any graphs
-pub texts_by_policy : (named : Option (List ℕ)) (old : Slot → SlotView) (R : List ℕ → Type 0) (P : List ℕ → List ℕ → Type 0) → ((p g : List ℕ) → R p → P p g) → IfSome (old slots.Policy).bytes R → WhereTexts named old P
+pub texts_by_policy : (named : Option (List ℕ)) (old : Slot → SlotView) (R : List ℕ → Type 0) (P : List ℕ → List ℕ → Type 0) → ((p g : List ℕ) → R p → P p g) → IfSome (old slots.Policy).bytes R →
+    WhereTexts named old P
 texts_by_policy named old R P f h = if_told (old slots.Policy).bytes R _ (λ p r. named_always named (old slots.Graph).bytes (P p) (λ g. f p g r)) h
 
 pub texts_under : (named : Option (List ℕ)) (old : Slot → SlotView) (F : Type 0) (P : List ℕ → List ℕ → Type 0) → (F → WhereTexts named old P) → WhereTexts named old (λ p g. F → P p g)
@@ -69,7 +70,8 @@ texts_under named old F P h = if_told (old slots.Policy).bytes _ _ (λ p. named_
 
 -- ---- all that the words read
 
-pub if_read : (command : Result Command UsageFault) (old : Slot → SlotView) (P Q : List ℕ → List ℕ → List ℕ → Type 0) → ((p g c : List ℕ) → P p g c → Q p g c) → WhereRead command old P → WhereRead command old Q
+pub if_read : (command : Result Command UsageFault) (old : Slot → SlotView) (P Q : List ℕ → List ℕ → List ℕ → Type 0) → ((p g c : List ℕ) → P p g c → Q p g c) → WhereRead command old P →
+    WhereRead command old Q
 if_read (Ok (Run names options)) old P Q f h = if_texts names.graph old _ _ (λ p g. if_told (old slots.Capture).bytes (P p g) (Q p g) (f p g)) h
 if_read (Ok (Plan names)) old P Q f h = if_texts names.graph old _ _ (λ p g here c. f p g c (here c)) h
 if_read (Ok (Demo input options)) old P Q f h = λ p g c. f p g c (h p g c)
@@ -83,7 +85,8 @@ read_always (Ok (Demo input options)) old P f = f
 read_always (Ok (Flows names options)) old P f = told_always (old slots.Capture).bytes _ (λ c p g. f p g c)
 read_always (Err fault) old P f = f
 
-pub read_under : (command : Result Command UsageFault) (old : Slot → SlotView) (F : Type 0) (P : List ℕ → List ℕ → List ℕ → Type 0) → (F → WhereRead command old P) → WhereRead command old (λ p g c. F → P p g c)
+pub read_under : (command : Result Command UsageFault) (old : Slot → SlotView) (F : Type 0) (P : List ℕ → List ℕ → List ℕ → Type 0) → (F → WhereRead command old P) →
+    WhereRead command old (λ p g c. F → P p g c)
 read_under (Ok (Run names options)) old F P h = if_texts names.graph old _ _ (λ p g. told_under (old slots.Capture).bytes F (P p g)) (texts_under names.graph old F _ h)
 read_under (Ok (Plan names)) old F P h = if_texts names.graph old _ _ (λ p g here c x. here x c) (texts_under names.graph old F _ h)
 read_under (Ok (Demo input options)) old F P h = λ p g c x. h x p g c

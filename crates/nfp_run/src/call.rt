@@ -65,7 +65,9 @@ pub fn nfp<R: Threads + Wait + Clock + Sync, D: Desk, G: Gate + Sync>(
     // Note holds a front part of its line, and the whole of it unless its own count rose.
     ensures noted { result ≢ Outcome.OutOfMemory → WhereDue (map string_bytes words.now) (D.slots desk.old) (λ due.
         AppendsPrefix (note_due result due.note) (D.slots desk.old Slot.Note) (D.slots desk.new Slot.Note)) }
-    ensures noted_whole { result ≢ Outcome.OutOfMemory → ¬ IsRisen (D.slots desk.old Slot.Note).faults (D.slots desk.new Slot.Note).faults → WhereDue (map string_bytes words.now) (D.slots desk.old) (λ due.
+    ensures noted_whole { result ≢ Outcome.OutOfMemory →
+        ¬ IsRisen (D.slots desk.old Slot.Note).faults (D.slots desk.new Slot.Note).faults →
+        WhereDue (map string_bytes words.now) (D.slots desk.old) (λ due.
         Appends (note_due result due.note) (D.slots desk.old Slot.Note) (D.slots desk.new Slot.Note)) }
     // Done says that Note holds its line or the plan whole, whatever the counts did.
     ensures done_noted { result ≡ Outcome.Done → WhereDue (map string_bytes words.now) (D.slots desk.old) (λ due.
@@ -76,7 +78,8 @@ pub fn nfp<R: Threads + Wait + Clock + Sync, D: Desk, G: Gate + Sync>(
         NotesPrefix due.note due.written (D.slots desk.old) (D.slots desk.new)) }
     // Nothing goes into Note once memory ran out. So if it holds something all the same and no slot failed, Out and
     // Report hold what is due as a whole.
-    ensures noted_late { result ≡ Outcome.OutOfMemory → NoneRose (D.slots desk.old) (D.slots desk.new) → WhereDue (map string_bytes words.now) (D.slots desk.old) (λ due.
+    ensures noted_late { result ≡ Outcome.OutOfMemory → NoneRose (D.slots desk.old) (D.slots desk.new) →
+        WhereDue (map string_bytes words.now) (D.slots desk.old) (λ due.
         Leaves due.written (D.slots desk.old) (D.slots desk.new)
         ⊎ Appends [] (D.slots desk.old Slot.Note) (D.slots desk.new Slot.Note)) }
     // A fault of Note is the outcome only if the work was done, and then Out and Report are whole.
@@ -96,16 +99,21 @@ pub fn nfp<R: Threads + Wait + Clock + Sync, D: Desk, G: Gate + Sync>(
 
     // Whether words are refused depends only on the words, unless there is no memory to say so.
     ensures usage { (f : UsageFault) → result ≡ Outcome.Usage f → command_of (map string_bytes words.now) ≡ Err f }
-    ensures usage_always { (f : UsageFault) → command_of (map string_bytes words.now) ≡ Err f → (result ≡ Outcome.Usage f) ⊎ (result ≡ Outcome.OutOfMemory) }
+    ensures usage_always { (f : UsageFault) → command_of (map string_bytes words.now) ≡ Err f →
+        (result ≡ Outcome.Usage f) ⊎ (result ≡ Outcome.OutOfMemory) }
     // A policy is refused only for its first fault, and accepted only if it has none, even if the desk shows only the
     // policy.
-    ensures refused { (f : PolicyFault) → result ≡ Outcome.Policy f → PolicyCause (command_of (map string_bytes words.now)) (D.slots desk.old) (D.slots desk.new) f }
+    ensures refused { (f : PolicyFault) → result ≡ Outcome.Policy f →
+        PolicyCause (command_of (map string_bytes words.now)) (D.slots desk.old) (D.slots desk.new) f }
     // Graphs are refused only for their first fault, after a policy without fault, and accepted only if they have none.
-    ensures graph_refused { (f : GraphFault) → result ≡ Outcome.Graph f → GraphCause (command_of (map string_bytes words.now)) (D.slots desk.old) (D.slots desk.new) f }
+    ensures graph_refused { (f : GraphFault) → result ≡ Outcome.Graph f →
+        GraphCause (command_of (map string_bytes words.now)) (D.slots desk.old) (D.slots desk.new) f }
     ensures policy { ReachesCapture (command_of (map string_bytes words.now)) result (D.slots desk.old) }
     // Each fault comes only if the count of its own slot rose, and not before the slots that are due earlier were good.
-    ensures read_faults { (s : Slot) → result ≡ Outcome.ReadFault s → ReadFaultCause (command_of (map string_bytes words.now)) (D.slots desk.old) (D.slots desk.new) s }
-    ensures write_faults { (s : Slot) → result ≡ Outcome.WriteFault s → WriteFaultCause (command_of (map string_bytes words.now)) (D.slots desk.old) (D.slots desk.new) s }
+    ensures read_faults { (s : Slot) → result ≡ Outcome.ReadFault s →
+        ReadFaultCause (command_of (map string_bytes words.now)) (D.slots desk.old) (D.slots desk.new) s }
+    ensures write_faults { (s : Slot) → result ≡ Outcome.WriteFault s →
+        WriteFaultCause (command_of (map string_bytes words.now)) (D.slots desk.old) (D.slots desk.new) s }
 {
     let ending = run_words(rt, alloc, words, desk, gate);
     put_note(alloc, desk, ending)

@@ -20,12 +20,17 @@ ghost use Rattle.command_words.specs.Words.{Names, FlowFiles, PlanFiles, command
 /// [`crate::nfp`], such a call returns Done, or runs out of memory, if no slot failed.
 #[tactic(auto, using(crate::proofs::GoodCalls::run_is_done, crate::proofs::GoodCalls::ng_run_is_done, crate::proofs::GoodCalls::plan_is_done, crate::proofs::GoodCalls::demo_is_done, crate::proofs::GoodCalls::flows_are_done))]
 pub fn a_good_call_is_done()
-    ensures run { (words : List (List ℕ)) → (names : Names) → (options : RunOptions) → (p g c : List ℕ) → (policy : Prepared) → (head : CaptureHead) → (records : List PcapRecord) →
+    ensures run { (words : List (List ℕ)) → (names : Names) → (options : RunOptions) → (p g c : List ℕ) → (policy : Prepared) →
+        (head : CaptureHead) → (records : List PcapRecord) →
         command_of words ≡ Ok (Run names options) → prepared names.graph p g ≡ Ok policy → capture_of c ≡ Ok (head, record { records = records; fault = None }) → (due words p g c).outcome ≡ Outcome.Done }
-    ensures run_ng { (words : List (List ℕ)) → (names : Names) → (options : RunOptions) → (p g c : List ℕ) → (policy : Prepared) → (items : List NgItem) →
+    ensures run_ng { (words : List (List ℕ)) → (names : Names) → (options : RunOptions) → (p g c : List ℕ) → (policy : Prepared) →
+        (items : List NgItem) →
         command_of words ≡ Ok (Run names options) → prepared names.graph p g ≡ Ok policy → is_ng c ≡ true → IsOk (next_of start c) → blocks_of start c ≡ record { items = items; fault = None } → (due words p g c).outcome ≡ Outcome.Done }
-    ensures plan { (words : List (List ℕ)) → (names : PlanFiles) → (p g c : List ℕ) → (policy : Prepared) → command_of words ≡ Ok (Plan names) → prepared names.graph p g ≡ Ok policy → (due words p g c).outcome ≡ Outcome.Done }
-    ensures demo { (words : List (List ℕ)) → (input : DemoInput) → (options : RunOptions) → (p g c : List ℕ) → command_of words ≡ Ok (Demo input options) → (due words p g c).outcome ≡ Outcome.Done }
-    ensures flows { (words : List (List ℕ)) → (names : FlowFiles) → (options : FlowOptions) → (p g c : List ℕ) → (head : CaptureHead) → (records : List PcapRecord) →
+    ensures plan { (words : List (List ℕ)) → (names : PlanFiles) → (p g c : List ℕ) → (policy : Prepared) →
+        command_of words ≡ Ok (Plan names) → prepared names.graph p g ≡ Ok policy → (due words p g c).outcome ≡ Outcome.Done }
+    ensures demo { (words : List (List ℕ)) → (input : DemoInput) → (options : RunOptions) → (p g c : List ℕ) →
+        command_of words ≡ Ok (Demo input options) → (due words p g c).outcome ≡ Outcome.Done }
+    ensures flows { (words : List (List ℕ)) → (names : FlowFiles) → (options : FlowOptions) → (p g c : List ℕ) → (head : CaptureHead) →
+        (records : List PcapRecord) →
         command_of words ≡ Ok (Flows names options) → capture_of c ≡ Ok (head, record { records = records; fault = None }) → (due words p g c).outcome ≡ Outcome.Done }
 {}

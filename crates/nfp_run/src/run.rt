@@ -60,12 +60,16 @@ pub fn run<R: Threads + Wait + Clock + Sync, D: Desk, G: Gate + Sync>(
     ensures report_behind { ReportBehindOut (D.slots desk.new) }
     ensures note_stays { D.slots desk.new Slot.Note ≡ D.slots desk.old Slot.Note }
     ensures no_usage { (f : UsageFault) → outcome_seen result ≡ Outcome.Usage f → ⊥ }
-    ensures refused { (f : PolicyFault) → outcome_seen result ≡ Outcome.Policy f → PolicyCause (Ok (Run (names_seen names.now) options)) (D.slots desk.old) (D.slots desk.new) f }
-    ensures graph_refused { (f : GraphFault) → outcome_seen result ≡ Outcome.Graph f → GraphCause (Ok (Run (names_seen names.now) options)) (D.slots desk.old) (D.slots desk.new) f }
+    ensures refused { (f : PolicyFault) → outcome_seen result ≡ Outcome.Policy f →
+        PolicyCause (Ok (Run (names_seen names.now) options)) (D.slots desk.old) (D.slots desk.new) f }
+    ensures graph_refused { (f : GraphFault) → outcome_seen result ≡ Outcome.Graph f →
+        GraphCause (Ok (Run (names_seen names.now) options)) (D.slots desk.old) (D.slots desk.new) f }
     ensures policy { ReachesCapture (Ok (Run (names_seen names.now) options)) (outcome_seen result) (D.slots desk.old) }
     ensures drained { outcome_seen result ≡ Outcome.Done → ReadsToEnd (Ok (Run (names_seen names.now) options)) (D.slots desk.new) }
-    ensures read_faults { (s : Slot) → outcome_seen result ≡ Outcome.ReadFault s → ReadFaultCause (Ok (Run (names_seen names.now) options)) (D.slots desk.old) (D.slots desk.new) s }
-    ensures write_faults { (s : Slot) → outcome_seen result ≡ Outcome.WriteFault s → WriteFaultCause (Ok (Run (names_seen names.now) options)) (D.slots desk.old) (D.slots desk.new) s }
+    ensures read_faults { (s : Slot) → outcome_seen result ≡ Outcome.ReadFault s →
+        ReadFaultCause (Ok (Run (names_seen names.now) options)) (D.slots desk.old) (D.slots desk.new) s }
+    ensures write_faults { (s : Slot) → outcome_seen result ≡ Outcome.WriteFault s →
+        WriteFaultCause (Ok (Run (names_seen names.now) options)) (D.slots desk.old) (D.slots desk.new) s }
     ensures no_note_fault { outcome_seen result ≡ Outcome.WriteFault Slot.Note → ⊥ }
 {
     let service = match read_service(alloc, desk, names.policy, names.graph) {

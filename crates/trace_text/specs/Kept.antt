@@ -20,6 +20,11 @@ kept_act decl act =
     head_text decl.name (kind_name decl.kind) (verb act.dropped act.changed) ++ (lines_text (map (number_of decl) act.lines) ++ (codes "\n"
     ++ (if not act.dropped then (if act.changed then kept_changes decl.kind act.frames else []) else [])))
 
+-- the text of an act of the function of this declaration, if there is one
+abbrev pub kept_at : Option FunctionDecl → TracedAct → List ℕ
+kept_at None act = []
+kept_at (Some decl) act = kept_act decl act
+
 abbrev pub kept_acts : List FunctionDecl → List TracedAct → List ℕ
 kept_acts order acts = flat_map (λ x. kept_act x.0 x.1) (zip order acts)
 

@@ -67,9 +67,12 @@ is_same_byte None None = true
 is_same_byte (Some old) (Some new) = old == new
 is_same_byte old new = false
 
+abbrev pub differs_at : List ℕ → List ℕ → ℕ → Bool
+differs_at old new place = not (is_same_byte (slice_get old place) (slice_get new place))
+
 -- the number of places at which two payloads differ, those among them that only one of them has
 abbrev pub differing : List ℕ → List ℕ → ℕ
-differing old new = count_by (λ place. not (is_same_byte (slice_get old place) (slice_get new place))) (range_with_len 0 (max (length old) (length new)))
+differing old new = count_by (differs_at old new) (range_with_len 0 (max (length old) (length new)))
 
 abbrev pub bytes_or_none : Option (List ℕ) → List ℕ
 bytes_or_none None = []

@@ -6,7 +6,7 @@ ghost use Rattle.action_profile.specs.Kinds.{kind_name};
 ghost use Rattle.declared_lines.specs.LinesOf.{lines_of};
 ghost use Rattle.declared_lines.specs.DeclaredLines.{number_of};
 ghost use Rattle.policy_text.specs.declared.policy.FunctionDecl.{FunctionDecl};
-ghost use Rattle.trace_text.specs.Kept.{kept_act, kept_acts, kept_changes, kept_trace};
+ghost use Rattle.trace_text.specs.Kept.{kept_act, kept_acts, kept_at, kept_trace};
 ghost use Rattle.trace_text.specs.Trace.{chain_trace, head_text, lines_text, verb};
 ghost use Rattle.traced_run.specs.Telling.{told};
 ghost use Rattle.traced_walk.specs.Traced.{Act};
@@ -67,13 +67,10 @@ fn in_order<'a>(
 ) -> Result<Vec<&'a FunctionDecl>, AllocError>
     ensures { IfOk result (λ order. map (λ d. d.now) order.items ≡ filter_map (λ place. slice_get functions.now place) positions.now) }
 {
-    let mut order = Vec::new(alloc);
-    'positions: for position in positions {
-        if let Some(decl) = functions.get(*position as usize) {
-            order.push(decl)?;
-        }
-    }
-    Ok(order)
+    positions
+        .iter()
+        .filter_map(|place| functions.get(*place as usize))
+        .collect(alloc)
 }
 
 fn push_acts(
@@ -84,10 +81,26 @@ fn push_acts(
 ) -> Result<(), AllocError>
     ensures { OnOk result (text.new.items ≡ text.old.items ++ kept_acts (map (λ d. d.now) order.now) acts.now) }
 {
-    'acts: for (decl, act) in order.iter().zip(acts) {
-        push_act(alloc, text, decl, act)?;
+    'acts: for (place, act) in acts.iter().enumerate() {
+        push_act_at(alloc, text, order, place, act)?;
     }
     Ok(())
+}
+
+// Adds what the function at this place did, if there is one.
+fn push_act_at(
+    alloc: Global,
+    text: &mut Vec<u8>,
+    order: &[&FunctionDecl],
+    place: usize,
+    act: &TracedAct,
+) -> Result<(), AllocError>
+    ensures { OnOk result (text.new.items ≡ text.old.items ++ kept_at (slice_get (map (λ d. d.now) order.now) place) act.now) }
+{
+    match order.get(place) {
+        Some(decl) => push_act(alloc, text, decl, act),
+        None => Ok(()),
+    }
 }
 
 // Adds the line of a function, and what it changed.

@@ -1,10 +1,11 @@
 //! What a function changed of a packet.
-ghost use Rattle.std.specs.Prelude.{◌≡◌, ◌++◌, IfSome, OnOk, length};
+ghost use Rattle.std.specs.Prelude.{◌≡◌, ◌++◌, IfSome, OnOk, count_by, length};
+ghost use Rattle.std.specs.List.{range_with_len};
 ghost use Rattle.std.specs.Option.{option_copied};
 ghost use Rattle.packet_fields.specs.Fields.{IsLengthOf};
 ghost use Rattle.trace_text.specs.Kept.{kept_changes};
 ghost use Rattle.trace_text.specs.Trace.{changes_text, field_lines, frame_line};
-ghost use Rattle.trace_text.specs.Values.{bytes_or_none, change_line, differing, field_line, is_same, is_same_byte, payload_line, value_line};
+ghost use Rattle.trace_text.specs.Values.{bytes_or_none, change_line, differing, differs_at, field_line, is_same, is_same_byte, payload_line, value_line};
 
 use crate::values::push_value;
 use action_profile::{Kind, all_fields, profile};
@@ -103,8 +104,8 @@ fn push_change(
     old: Option<&[u8]>,
     new: Option<&[u8]>,
 ) -> Result<(), AllocError>
-    requires old { IfSome old.entry (λ bytes. IsLengthOf field (length bytes.now)) }
-    requires new { IfSome new.entry (λ bytes. IsLengthOf field (length bytes.now)) }
+    requires old { IfSome old (λ bytes. IsLengthOf field (length bytes.now)) }
+    requires new { IfSome new (λ bytes. IsLengthOf field (length bytes.now)) }
     ensures { OnOk result (text.new.items ≡ text.old.items ++ change_line field (option_copied old.entry) (option_copied new.entry)) }
 {
     if is_same(old, new) {
@@ -131,8 +132,8 @@ fn push_field_line(
     old: Option<&[u8]>,
     new: Option<&[u8]>,
 ) -> Result<(), AllocError>
-    requires old { IfSome old.entry (λ bytes. IsLengthOf field (length bytes.now)) }
-    requires new { IfSome new.entry (λ bytes. IsLengthOf field (length bytes.now)) }
+    requires old { IfSome old (λ bytes. IsLengthOf field (length bytes.now)) }
+    requires new { IfSome new (λ bytes. IsLengthOf field (length bytes.now)) }
     ensures { OnOk result (text.new.items ≡ text.old.items ++ field_line field (option_copied old.entry) (option_copied new.entry)) }
 {
     match field {
@@ -149,8 +150,8 @@ fn push_value_line(
     old: Option<&[u8]>,
     new: Option<&[u8]>,
 ) -> Result<(), AllocError>
-    requires old { IfSome old.entry (λ bytes. IsLengthOf field (length bytes.now)) }
-    requires new { IfSome new.entry (λ bytes. IsLengthOf field (length bytes.now)) }
+    requires old { IfSome old (λ bytes. IsLengthOf field (length bytes.now)) }
+    requires new { IfSome new (λ bytes. IsLengthOf field (length bytes.now)) }
     ensures { OnOk result (text.new.items ≡ text.old.items ++ value_line field (option_copied old.entry) (option_copied new.entry)) }
 {
     push_pieces(
@@ -199,10 +200,21 @@ fn bytes_or_none<'a>(bytes: Option<&'a [u8]>) -> &'a [u8]
 fn differing(old: &[u8], new: &[u8]) -> usize
     ensures { result ≡ differing old.now new.now }
 {
-    let places = 0..old.len().max(new.len());
-    places
-        .filter(|place| !is_same_byte(old.get(*place), new.get(*place)))
+    differing_below(old, new, old.len().max(new.len()))
+}
+
+fn differing_below(old: &[u8], new: &[u8], end: usize) -> usize
+    ensures { result ≡ count_by (differs_at old.now new.now) (range_with_len 0 end) }
+{
+    (0..end)
+        .filter(|place| differs_at(old, new, *place))
         .count()
+}
+
+fn differs_at(old: &[u8], new: &[u8], place: usize) -> bool
+    ensures { result ≡ differs_at old.now new.now place }
+{
+    !is_same_byte(old.get(place), new.get(place))
 }
 
 fn is_same_byte(old: Option<&u8>, new: Option<&u8>) -> bool

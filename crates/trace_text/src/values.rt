@@ -23,7 +23,7 @@ pub fn push_value(
     field: Field,
     value: Option<&[u8]>,
 ) -> Result<(), AllocError>
-    requires { IfSome value.entry (λ bytes. IsLengthOf field (length bytes.now)) }
+    requires { IfSome value (λ bytes. IsLengthOf field (length bytes.now)) }
     ensures { OnOk result (text.new.items ≡ text.old.items ++ value_text field (option_copied value.entry)) }
 {
     match value {

@@ -1,3 +1,5 @@
-pub mod Counting
+pub mod Adding
+pub mod Counts
+pub mod Naming
 pub mod Noting
 pub mod Parts

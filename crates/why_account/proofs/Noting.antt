@@ -1,5 +1,5 @@
 -- One more way, in the accounts of functions and chains.
-use Rattle.std.proofs.Common.{◌≡◌, ◌+◌, ◌∙◌, ℕ, List, [], ◌∷◌, ◌++◌, length, map, refl, ap, sym, subst, Bool, true, false}
+use Rattle.std.proofs.Common.{◌≡◌, ◌+◌, ◌∙◌, ℕ, List, [], ◌∷◌, ◌++◌, length, map, refl, ap, sym, subst, Bool, true, false, arith}
 use Rattle.std.specs.Prelude.{count_by, cond, ◌==◌, Option, Some, None, if◌then◌else◌, slice_get, filter_map, is_none}
 use Rattle.std.specs.List.{cons_option, enumerate_from}
 use Rattle.std.specs.Option.{option_map, option_map_or, unwrap_or}
@@ -20,7 +20,7 @@ use Rattle.why_account.specs.Accounts.{NotesFunctions, account_of, chain_account
 use Rattle.why_account.specs.declared.account.Account.{Account}
 use Rattle.why_account.specs.declared.chain.ChainAccount.{ChainAccount}
 use Rattle.why_account.specs.declared.function.FunctionAccount.{FunctionAccount}
-use Rattle.why_account.proofs.Counting.{count_push, counted_more}
+use Rattle.why_account.proofs.Counts.{count_push, counted_more}
 
 map_same : {A B : Type 0} (f g : A → B) (xs : List A) → ((x : A) → f x ≡ g x) → map f xs ≡ map g xs
 map_same f g [] same = refl

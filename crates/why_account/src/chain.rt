@@ -117,6 +117,7 @@ pub struct ChainAccounts {
 
 impl Model for ChainAccounts {
     ghost use Rattle.std.specs.Prelude.{List};
+    ghost use Rattle.why_account.specs.declared.chain.ChainAccount.{ChainAccount};
 
     ghost Value = { List ChainAccount };
 

@@ -74,7 +74,15 @@ fn push_drop_by(
     };
     match account.lines.as_slice().get(place) {
         Some(lines) => {
-            push_drops(alloc, text, number, name, function, lines, deciding.as_slice())
+            push_drops(
+                alloc,
+                text,
+                number,
+                name,
+                function,
+                lines,
+                deciding.as_slice(),
+            )
         }
         None => Ok(()),
     }

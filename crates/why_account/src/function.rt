@@ -1,7 +1,9 @@
 //! How often the functions of a chain and each of their lines were used.
 ghost use Rattle.std.specs.Prelude.{◌≡◌, ℕ, List, [], IfOk, map};
 ghost use Rattle.policy_text.specs.declared.policy.FunctionDecl.{FunctionDecl};
-ghost use Rattle.why_report.specs.Report.{place_in};
+ghost use Rattle.std.specs.Prelude.{length, position};
+ghost use Rattle.std.specs.Option.{unwrap_or};
+ghost use Rattle.std.specs.Str.{bytes_eq};
 ghost use Rattle.why_account.specs.Accounts.{function_account, NotesFunction, NotesFunctions};
 
 use declared_lines::DeclaredLines;
@@ -56,10 +58,18 @@ impl FunctionAccount {
 
 // The place of this name, or the number of names.
 fn place_among(names: &[Name], name: &[u8]) -> usize
-    ensures { (order : List FunctionDecl) → names.now ≡ map (λ d. d.name) order → result ≡ place_in order name.now }
+    ensures { result ≡ unwrap_or (position (λ n. bytes_eq n name.now) names.now) (length names.now) }
 {
-    let found = names.iter().position(|other| other.bytes() == name);
-    found.unwrap_or(names.len())
+    match found_among(names, name) {
+        Some(place) => place,
+        None => names.len(),
+    }
+}
+
+fn found_among(names: &[Name], name: &[u8]) -> Option<usize>
+    ensures { result ≡ position (λ n. bytes_eq n name.now) names.now }
+{
+    names.iter().position(|other| other.bytes() == name)
 }
 
 /// The uses of the functions of a chain, as they are declared. Contracts see the list.
@@ -70,6 +80,7 @@ pub struct FunctionAccounts {
 
 impl Model for FunctionAccounts {
     ghost use Rattle.std.specs.Prelude.{List};
+    ghost use Rattle.why_account.specs.declared.function.FunctionAccount.{FunctionAccount};
 
     ghost Value = { List FunctionAccount };
 

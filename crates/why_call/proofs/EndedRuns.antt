@@ -47,7 +47,7 @@ use Rattle.call_ending.specs.declared.outcome.Outcome.TheVariants.{Done, Usage, 
 use Rattle.call_ending.specs.declared.read.Opened.{Opened}
 use Rattle.call_ending.specs.declared.read.Opened.TheVariants.{Pcap, Ng}
 use Rattle.why_call.specs.Answers.{AttachedUnless, FaultAttaches, HasNames, ReadsToEnd, ReportAttaches, WhereRead}
-use Rattle.why_call.specs.Due.{WhyDue, due_by_format, due_of_blocks, due_of_capture, due_of_ng, due_of_packets, due_of_pcap, due_of_ways, due_of_why, note_by, packet_of}
+use Rattle.why_call.specs.Due.{WhyDue, chains_judged, due_by_format, due_of_blocks, due_of_capture, due_of_ng, due_of_packets, due_of_pcap, due_of_ways, due_of_why, note_by, packet_of}
 use Rattle.why_call.specs.Ending.{IsEndingOf, MissingEnds, TracedEnds}
 use Rattle.why_call.specs.Ran.{EndsDue, Ran, why_line, why_outcome}
 use Rattle.why_call.specs.Reporting.{IsReady, IsReadyOf, Left, Packets, Tells, packets_left, packets_of, report_led, ways_led}
@@ -120,8 +120,7 @@ due_led chains asked p = due_of_ways (ordered_of chains) (ways_led chains p) p.f
 
 ready_same : (policy : Judged) (chains : List PlainChain) (asked : Option ℕ) (p : Packets) → IsReadyOf chains (Ok policy) → due_of_packets policy asked p.unit p.packets p.fault ≡ due_led chains asked p
 ready_same policy chains asked p ready =
-    let ways : List Way = ways_led chains p in
-    ap (λ all. due_of_ways all (ways_of _ p.unit p.packets) p.fault asked) (sym ready.1) ∙ ap (λ c. due_of_ways (ordered_of chains) (ways_of c p.unit p.packets) p.fault asked) (sym ready.0)
+    ap (λ all. due_of_ways all (ways_of (chains_judged policy) p.unit p.packets) p.fault asked) (sym ready.1) ∙ ap (λ c. due_of_ways (ordered_of chains) (ways_of c p.unit p.packets) p.fault asked) (sym ready.0)
 
 told_due : (asked : WhyAsked) (old : Slot → SlotView) (chains : List PlainChain) (left : Option Packets) (P : WhyDue → Type 0) → IsReady (old slots.Policy) chains → IfSome (old slots.Capture).bytes (IsGiven left) →
     IfSome left (λ p. P (due_led chains asked.record_number p)) → WhereRead (Ok asked) old (λ p c. P (due_of_why (Ok asked) p c))

@@ -1,10 +1,13 @@
 pub mod CallAnswers
 pub mod CallCauses
+pub mod Counted
 pub mod EarlyEnds
 pub mod EndedRuns
 pub mod GoodWhys
 pub mod HeldBytes
+pub mod LedCaptures
 pub mod NotedLines
 pub mod Opening
 pub mod OtherSlots
 pub mod ReadBytes
+pub mod ReadyChains

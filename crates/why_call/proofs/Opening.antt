@@ -30,7 +30,7 @@ use Rattle.why_call.specs.Ran.{EndsDue, Ran}
 use Rattle.why_call.specs.Reporting.{IsReady, IsReadyOf}
 use Rattle.why_call.proofs.EarlyEnds.{IsDueHere, Stays, ran_by}
 use Rattle.why_call.proofs.HeldBytes.{untouched_prefix, untouched_same}
-use Rattle.why_call.proofs.OtherSlots.{note_is_not_capture, note_is_not_policy, report_is_not_capture, report_is_not_policy}
+use Rattle.why_call.proofs.OtherSlots.{capture_is_not_policy, note_is_not_capture, note_is_not_policy, policy_is_not_capture, report_is_not_capture, report_is_not_policy}
 use Rattle.why_call.proofs.ReadBytes.{if_told, read_always, told_always}
 
 -- ---- the policy
@@ -60,6 +60,23 @@ pub record OnlyRead (asked : WhyAsked) (old new : Slot → SlotView) : Type 0 wh
   pub policy_name : ((new slots.Policy).name ≡ None) ⊎ ((new slots.Policy).name ≡ Some asked.files.policy)
   pub capture_name : ((new slots.Capture).name ≡ None) ⊎ ((new slots.Capture).name ≡ Some asked.files.capture)
   pub others : (s : Slot) → s ≢ slots.Policy → s ≢ slots.Capture → new s ≡ old s
+
+-- The policy was read, and then the capture was to be opened.
+pub record BothRead (asked : WhyAsked) (chains : List PlainChain) (old first new : Slot → SlotView) : Type 0 where
+  pub free : (s : Slot) → (old s).name ≡ None
+  pub policy_name : ((first slots.Policy).name ≡ None) ⊎ ((first slots.Policy).name ≡ Some asked.files.policy)
+  pub after_policy : (s : Slot) → s ≢ slots.Policy → first s ≡ old s
+  pub ready : IsReady (old slots.Policy) chains
+  pub capture_name : ((new slots.Capture).name ≡ None) ⊎ ((new slots.Capture).name ≡ Some asked.files.capture)
+  pub after_capture : (s : Slot) → s ≢ slots.Capture → new s ≡ first s
+
+pub only_read : (asked : WhyAsked) (chains : List PlainChain) (old first new : Slot → SlotView) → BothRead asked chains old first new → OnlyRead asked old new
+only_read asked chains old first new both = record {
+  free = both.free;
+  policy_name = subst (λ v. (v.name ≡ None) ⊎ (v.name ≡ Some asked.files.policy)) (sym (both.after_capture slots.Policy policy_is_not_capture)) both.policy_name;
+  capture_name = both.capture_name;
+  others = λ s p c. both.after_capture s c ∙ both.after_policy s p;
+}
 
 report_untouched : (asked : WhyAsked) (old new : Slot → SlotView) → OnlyRead asked old new → IsUntouched (old slots.Report) (new slots.Report)
 report_untouched asked old new only = untouched_same (old slots.Report) (new slots.Report) (only.free slots.Report) (only.others slots.Report report_is_not_policy report_is_not_capture)
@@ -125,3 +142,9 @@ unopened_ran asked old new chains (Usage fault) only ready h = absurd h
 unopened_ran asked old new chains (Policy fault) only ready h = absurd h
 unopened_ran asked old new chains (Graph fault) only ready h = absurd h
 unopened_ran asked old new chains (WriteFault s) only ready h = absurd h
+
+-- the same from where the policy was read
+pub refused_ran : (asked : WhyAsked) (old first new : Slot → SlotView) (chains : List PlainChain) (outcome : Outcome) → BothRead asked chains old first new → RefusedOpening (first slots.Capture) (new slots.Capture) outcome →
+    Ran (Ok asked) old new outcome (stop_text outcome)
+refused_ran asked old first new chains outcome both h = unopened_ran asked old new chains outcome (only_read asked chains old first new both) both.ready
+    (subst (λ v. RefusedOpening v (new slots.Capture) outcome) (both.after_policy slots.Capture capture_is_not_policy) h)

@@ -65,8 +65,11 @@ fn explain<R: Wait, D: Desk>(
         Ok(opened) => opened,
         Err(outcome) => return WhyEnding::Ended(Ending::Stopped(outcome)),
     };
-    let ran = attach_and_run(rt, alloc, desk, request, service, opened);
-    ending_of(alloc, request.record, ran)
+    ending_of(
+        alloc,
+        request.record,
+        attach_and_run(rt, alloc, desk, request, service, opened),
+    )
 }
 
 // Attaches Report, and leads the capture through the chains, by its format.

@@ -38,11 +38,13 @@ returns-in-Ng-clause-left g c =
     c.run_ng.ensures.ok c.run_ng.ensures.err)
 
 pub returns-in_err-attach_sink-clause-left : goal.returns-in_err-attach_sink-clause-left
-returns-in_err-attach_sink-clause-left g c = out_unattached _ (g.D.Desk.slots c.args.desk.now) (g.D.Desk.slots c.attach_sink.new.desk) c.from_residual.result c.in_err-attach_sink.field-0.0 c.from_residual.ensures.1
+returns-in_err-attach_sink-clause-left g c =
+    out_unattached _ (g.D.Desk.slots c.args.desk.now) (g.D.Desk.slots c.attach_sink.new.desk) c.from_residual.result c.in_err-attach_sink.field-0.0 c.from_residual.ensures.1
     c.requires.out_free c.requires.report_free c.in_err-attach_sink.ensures.err.keeps (c.attach_sink.ensures.others Report report_is_not_out)
 
 pub returns-in_err-attach_sink-2-clause-left : goal.returns-in_err-attach_sink-2-clause-left
-returns-in_err-attach_sink-2-clause-left g c = report_unattached c.args.names.now.out.now _ (g.D.Desk.slots c.args.desk.now) (g.D.Desk.slots c.attach_sink.new.desk) (g.D.Desk.slots c.attach_sink-2.new.desk)
+returns-in_err-attach_sink-2-clause-left g c =
+    report_unattached c.args.names.now.out.now _ (g.D.Desk.slots c.args.desk.now) (g.D.Desk.slots c.attach_sink.new.desk) (g.D.Desk.slots c.attach_sink-2.new.desk)
     c.from_residual-in_err-attach_sink-2.result c.in_err-attach_sink-2.field-0.0 c.from_residual-in_err-attach_sink-2.ensures.1 c.requires.report_free c.in_ok-attach_sink.ensures.ok (c.attach_sink.ensures.others Report report_is_not_out)
     c.in_err-attach_sink-2.ensures.err.keeps (c.attach_sink-2.ensures.others Out out_is_not_report)
 

@@ -71,7 +71,8 @@ returns-clause-drained g c = λ done. (
 )
 
 pub returns-in-Err-clause-drained : goal.returns-in-Err-clause-drained
-returns-in-Err-clause-drained g c = λ done. absurd (texts_early (names_seen c.args.names.now).graph (g.D.Desk.slots c.args.desk.now) (g.D.Desk.slots c.read_service.new.desk) c.in-Err.ending c.in-Err.ensures.serves done)
+returns-in-Err-clause-drained g c =
+    λ done. absurd (texts_early (names_seen c.args.names.now).graph (g.D.Desk.slots c.args.desk.now) (g.D.Desk.slots c.read_service.new.desk) c.in-Err.ending c.in-Err.ensures.serves done)
 
 pub returns-in-Err-open_capture-clause-drained : goal.returns-in-Err-open_capture-clause-drained
 returns-in-Err-open_capture-clause-drained g c = λ done. absurd (refused_early (g.D.Desk.slots c.read_service.new.desk Capture) (g.D.Desk.slots c.open_capture.new.desk Capture) c.in-Err-open_capture.outcome c.in-Err-open_capture.ensures.err done)

@@ -1,0 +1,8 @@
+use Rattle.std.proofs.Common.{◌≡◌, ◌++◌, take}
+use Rattle.std.specs.List.{flat_map}
+use Rattle.trace_text.specs.Values.{pair}
+use Rattle.trace_text.proofs.values.push_pairs.Given as goal
+
+-- the bytes so far
+abbrev pub invariant-bytes : goal.invariant-bytes
+invariant-bytes l = l.text.items ≡ l.fn.text.items ++ flat_map pair (take l.byte-index l.bytes)
