@@ -1,6 +1,6 @@
 -- A packet goes through the chain that takes it.
-use Rattle.std.proofs.Common.{◌≡◌, ◌<◌, ◌≤◌, ◌∙◌, ℕ, List, [], ◌∷◌, length, map, set, get_or, ap, refl, subst, sum_by, sym, Option, Some, None}
-use Rattle.std.proofs.lemmas.List.{get_or-map, length-map, map-set, set-get_or}
+use Rattle.std.proofs.Common.{◌≡◌, ◌<◌, ◌≤◌, ◌∙◌, ◌++◌, ℕ, List, [], ◌∷◌, drop, length, map, set, take, get_or, ap, arith, refl, subst, sum_by, sym, Option, Some, None}
+use Rattle.std.proofs.lemmas.List.{append-nil, drop_all, get_or-map, length-map, map-set, set-get_or, take_all}
 use Rattle.capture_bytes.specs.Packets.{time_of}
 use Rattle.capture_bytes.specs.declared.packet.PcapRecord.{PcapRecord}
 use Rattle.capture_bytes.specs.declared.packet.Unit.{Unit as TimeUnit}
@@ -27,6 +27,11 @@ pub count_stays : {F : Type 0} (b : Behaviour F) (time : ℕ) (pieces : List (Pi
     sum_by count_of (long b time 1 pieces frame).pieces ≡ sum_by count_of pieces
 unfolding pieces_after
 count_stays b time pieces frame law = law b pieces (record { time = time; frame = frame } ∷ [])
+
+-- items that were overwritten whole
+pub overwritten : {X : Type 0} (written items : List X) (n : ℕ) → n ≡ length items → length written ≡ length items → take n (written ++ drop (length written) items) ≡ written
+overwritten written items n whole as_long =
+    ap (λ t. take n (written ++ t)) (drop_all (length written) items (omega arith)) ∙ ap (take n) (append-nil written) ∙ take_all n written (omega arith)
 
 -- what stays in each chain stays in all of them
 same_set : {X Y : Type 0} (f : X → Y) (xs : List X) (i : ℕ) (x : X) (e : X) → i < length xs → f x ≡ f (get_or xs i e) → map f (set xs i x) ≡ map f xs
