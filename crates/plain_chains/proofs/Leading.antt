@@ -1,20 +1,19 @@
 -- A packet goes through the chain that takes it.
-use Rattle.std.proofs.Common.{◌≡◌, ◌<◌, ◌≤◌, ◌∙◌, ◌++◌, ℕ, List, [], ◌∷◌, drop, length, map, set, take, get_or, ap, arith, refl, subst, sum_by, sym, Option, Some, None}
+use Rattle.std.proofs.Common.{◌≡◌, ◌<◌, ◌∙◌, ◌++◌, ℕ, List, [], ◌∷◌, drop, length, map, set, take, get_or, ap, arith, refl, subst, sum_by, sym, Option, Some, None}
 use Rattle.std.proofs.lemmas.List.{append-nil, drop_all, get_or-map, length-map, map-set, set-get_or, take_all}
 use Rattle.capture_bytes.specs.Packets.{time_of}
 use Rattle.capture_bytes.specs.declared.packet.PcapRecord.{PcapRecord}
 use Rattle.capture_bytes.specs.declared.packet.Unit.{Unit as TimeUnit}
 use Rattle.chain_walk.specs.Packets.{Packet}
 use Rattle.chain_walk.specs.Step.{Behaviour}
-use Rattle.packet_function.specs.Deciding.{Deciding}
 use Rattle.piece_walk.specs.Pieces.{Piece, count_of, long}
 use Rattle.piece_walk.specs.PiecePackets.{pieces_after}
-use Rattle.service_walk.specs.Service.{Classed, at_chain, served}
+use Rattle.service_walk.specs.Service.{at_chain, served}
 use Rattle.traced_walk.specs.Traced.{long_traced}
 use Rattle.traced_run.specs.Telling.{with_acts}
 use Rattle.traced_run.specs.declared.acts.Trace.{Trace}
 use Rattle.traced_run.specs.declared.acts.TracedAct.{TracedAct}
-use Rattle.traced_walk.specs.Ways.{Way, way_of, way_in}
+use Rattle.traced_walk.specs.Ways.{way_of, way_in}
 use Rattle.classifier.specs.Classes.{class_of}
 use Rattle.policy_text.specs.declared.clause.Match.{Match}
 use Rattle.policy_text.specs.declared.policy.ChainPolicy.{ChainPolicy}

@@ -14,7 +14,7 @@ use Rattle.policy_check.specs.declared.fault.Order.{Order}
 use Rattle.policy_judge.specs.Orders.{IsOrdered}
 use Rattle.policy_chains.specs.Services.{Chains, names_by, pieces_by, pieces_at, service_among}
 use Rattle.policy_chains.specs.declared.named.NamedFunction.{NamedFunction}
-use Rattle.plain_chains.specs.Plain.{IsPlain, chains_of, pieces_in}
+use Rattle.plain_chains.specs.Plain.{IsPlain, chains_of}
 use Rattle.plain_chains.specs.declared.chain.PlainChain.{PlainChain}
 
 pub few_places : (chain : ChainPolicy) (order : Order) → IsOrdered chain order → length order.positions ≤ 64

@@ -8,11 +8,11 @@ use Rattle.chain_walk.specs.declared.walk.Fate.{Fate}
 use Rattle.chain_walk.specs.declared.walk.Fate.TheVariants.{Out, Gone}
 use Rattle.packet_function.specs.Deciding.{Deciding}
 use Rattle.piece_walk.specs.Pieces.{Piece, count_of}
-use Rattle.traced_walk.specs.Traced.{Act, LongTraced, long_traced}
+use Rattle.traced_walk.specs.Traced.{LongTraced, long_traced}
 use Rattle.traced_run.specs.declared.acts.Trace.{Trace}
 use Rattle.traced_run.specs.Telling.{told, with_acts}
 use Rattle.plain_chains.specs.Leading.{IsLed, alone}
-use Rattle.plain_chains.proofs.OnePart.{behind, before, goes_out, stops}
+use Rattle.plain_chains.proofs.OnePart.{behind, goes_out, stops}
 
 -- the pieces, the fate and the trace of a walk
 pub record Told (F : Type 0) : Type 0 where
