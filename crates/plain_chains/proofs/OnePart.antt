@@ -1,5 +1,5 @@
 -- A packet goes through one part of a chain, and then through the later ones.
-use Rattle.std.proofs.Common.{◌≡◌, ◌∙◌, ◌+◌, ℕ, List, [], ◌∷◌, ◌++◌, length, ap, refl, sym, subst}
+use Rattle.std.proofs.Common.{◌≡◌, ◌∙◌, ◌+◌, ℕ, List, [], ◌∷◌, ◌++◌, length, ap, refl, sym}
 use Rattle.std.proofs.lemmas.List.{append-nil}
 use Rattle.packet_fields.specs.Checksums.{sealed}
 use Rattle.graph_compile.specs.declared.graph.Stage.{Stage}

@@ -3,15 +3,18 @@ use Rattle.std.proofs.Common.{◌≡◌, ◌≤◌, ◌∙◌, List, [], ◌∷�
 use Rattle.std.specs.Prelude.{All}
 use Rattle.std.specs.List.{range_with_len}
 use Rattle.std.proofs.lemmas.List.Elements.{All-head, All-tail}
+use Rattle.std.proofs.lemmas.List.FromFn.{length-range_with_len}
+use Rattle.std.proofs.lemmas.List.Sorted.{length_permutation}
 use Rattle.graph_text.specs.Graphs.{no_graph}
 use Rattle.piece_walk.specs.Pieces.{Piece}
+use Rattle.policy_text.specs.Names.{names_at}
 use Rattle.policy_text.specs.declared.clause.Match.{Match}
 use Rattle.policy_text.specs.declared.policy.ChainPolicy.{ChainPolicy}
 use Rattle.policy_check.specs.declared.fault.Order.{Order}
 use Rattle.policy_judge.specs.Orders.{IsOrdered}
 use Rattle.policy_chains.specs.Services.{Chains, names_by, pieces_by, pieces_at, service_among}
 use Rattle.policy_chains.specs.declared.named.NamedFunction.{NamedFunction}
-use Rattle.plain_chains.specs.Plain.{IsPlain, chains_of, pieces_in}
+use Rattle.plain_chains.specs.Plain.{IsPlain, chains_of}
 use Rattle.plain_chains.specs.declared.chain.PlainChain.{PlainChain}
 
 pub few_places : (chain : ChainPolicy) (order : Order) → IsOrdered chain order → length order.positions ≤ 64
