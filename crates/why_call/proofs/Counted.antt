@@ -1,5 +1,5 @@
 -- Each packet of a capture has its way.
-use Rattle.std.proofs.Common.{◌≡◌, ◌∙◌, ℕ, List, [], ◌∷◌, length, map, refl, ap, suc}
+use Rattle.std.proofs.Common.{◌≡◌, ◌∙◌, List, [], ◌∷◌, length, refl, ap, suc}
 use Rattle.capture_bytes.specs.declared.packet.PcapRecord.{PcapRecord}
 use Rattle.capture_bytes.specs.declared.packet.Unit.{Unit as TimeUnit}
 use Rattle.chain_walk.specs.Step.{Behaviour}
@@ -7,7 +7,7 @@ use Rattle.packet_function.specs.Deciding.{Deciding}
 use Rattle.piece_walk.specs.Pieces.{Piece}
 use Rattle.service_walk.specs.Service.{Classed, served}
 use Rattle.plain_chains.specs.PacketWays.{ways_of}
-use Rattle.policy_chains.specs.Fates.{all_classed, classed}
+use Rattle.policy_chains.specs.Fates.{all_classed}
 use Rattle.policy_chains.specs.NamedFunctions.{named_behaviour, named_decides}
 use Rattle.policy_chains.specs.Services.{Chains}
 use Rattle.policy_text.specs.declared.policy.ChainPolicy.{ChainPolicy}

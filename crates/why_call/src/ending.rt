@@ -36,11 +36,7 @@ pub fn put_ending<D: Desk>(alloc: Global, desk: &mut D, ending: WhyEnding) -> Ou
 }
 
 /// How the call ends if this record was asked for, and a capture was led through the chains, or that was broken off.
-pub fn ending_of(
-    alloc: Global,
-    asked: Option<u32>,
-    ran: Result<WhyEnded, RunFault>,
-) -> WhyEnding
+pub fn ending_of(alloc: Global, asked: Option<u32>, ran: Result<WhyEnded, RunFault>) -> WhyEnding
     requires { IfOk ran (λ ended. ended.totals.dropped ≤ ended.totals.records) }
     ensures within { IsWithin result }
     ensures ends { IsEndingOf asked ran result }
