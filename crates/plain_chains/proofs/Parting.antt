@@ -1,5 +1,5 @@
 -- A packet goes through one part: functions in a row, or one end of a tunnel.
-use Rattle.std.proofs.Common.{◌≡◌, ◌∙◌, ℕ, false, List, [], ◌∷◌, ap, sym}
+use Rattle.std.proofs.Common.{◌≡◌, ◌∙◌, ℕ, List, [], ◌∷◌, ap, sym}
 use Rattle.action_profile.specs.declared.rights.Profile.{Profile}
 use Rattle.chain_walk.specs.declared.walk.Fate.{Fate}
 use Rattle.chain_walk.specs.declared.walk.Fate.TheVariants.{Out}
@@ -37,13 +37,12 @@ functions_lead time position frame old new fate start end functions ends told =
       told = told ∙ ap (λ (t : LongTraced NamedFunction). with_acts start t.acts) through;
     }
 
-pub end_leads : (time position : ℕ) (frame after : List ℕ) (rewritten : List ℕ → List ℕ) (fate : Fate) (start end : Trace) → after ≡ rewritten frame → fate ≡ Out after →
-    end ≡ with_acts start (record { lines = []; dropped = false; before = frame; after = after } ∷ []) →
-    IsLed named_behaviour named_decides time position frame (Whole rewritten) (Whole rewritten) fate start end
-end_leads time position frame after rewritten fate start end is ends told =
+pub end_leads : (time position : ℕ) (frame : List ℕ) (rewritten : List ℕ → List ℕ) (fate : Fate) (start end : Trace) → fate ≡ Out (rewritten frame) →
+    end ≡ with_acts start (rewriting rewritten frame ∷ []) → IsLed named_behaviour named_decides time position frame (Whole rewritten) (Whole rewritten) fate start end
+end_leads time position frame rewritten fate start end ends told =
     let through = sym (through_whole named_behaviour named_decides time position rewritten frame) in
     record {
       piece = ap (λ t. t.pieces) through;
-      ends = ends ∙ ap Out is ∙ ap (λ t. t.fate) through;
-      told = told ∙ ap (λ (after : List ℕ). with_acts start (record { lines = []; dropped = false; before = frame; after = after } ∷ [])) is ∙ ap (λ (t : LongTraced NamedFunction). with_acts start t.acts) through;
+      ends = ends ∙ ap (λ t. t.fate) through;
+      told = told ∙ ap (λ (t : LongTraced NamedFunction). with_acts start t.acts) through;
     }

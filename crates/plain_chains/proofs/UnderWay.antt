@@ -1,6 +1,6 @@
 -- How the walk through the parts of a chain continues from the part that it has reached.
 use Rattle.std.proofs.Common.{◌≡◌, ◌<◌, ◌≤◌, ◌+◌, ◌∙◌, ℕ, List, [], ◌∷◌, ◌++◌, length, map, take, drop, set, get_or, refl, sym, ap, subst, sum_by, add-one, append_assoc, arith}
-use Rattle.std.proofs.lemmas.List.{append-nil, drop_more, drop-set-lt, drop_all, map-append, set_split, take_all, take_more_set}
+use Rattle.std.proofs.lemmas.List.{append-nil, drop_more, drop-set-lt, drop_all, get_or_default, map-append, set-set, set_split, take_all, take_more_set}
 use Rattle.std.proofs.lemmas.List.Sums.{sum_by-cons}
 use Rattle.std.proofs.Math.ListN.{length-set}
 use Rattle.chain_walk.specs.Step.{Behaviour}
@@ -67,7 +67,7 @@ module _ {P F : Type 0} (part_of : P → Piece F) (b : Behaviour F) (d : Decidin
       count_of (part_of (get_or now i e)) ≤ 64
   count_is_small i now position frame trace e way inside = omega (arith, part_is_small i now position frame trace e way inside, way.from_one)
 
-  pub walk_goes_on : (i : ℕ) (now : List P) (position : ℕ) (frame next : List ℕ) (trace after : Trace) (e y : P) → IsUnderWay part_of b d time first entered begun i now position frame trace → i < length now →
+  walk_goes_on : (i : ℕ) (now : List P) (position : ℕ) (frame next : List ℕ) (trace after : Trace) (e y : P) → IsUnderWay part_of b d time first entered begun i now position frame trace → i < length now →
       IsLed b d time position frame (part_of (get_or now i e)) (part_of y) (Out next) trace after →
       IsUnderWay part_of b d time first entered begun (i + 1) (set now i y) (position + count_of (part_of (get_or now i e))) next after
   walk_goes_on i now position frame next trace after e y way inside turn =
@@ -91,7 +91,7 @@ module _ {P F : Type 0} (part_of : P → Piece F) (b : Behaviour F) (d : Decidin
         size = length-set now i y ∙ way.size;
       }
 
-  pub walk_stops : (i : ℕ) (now : List P) (position : ℕ) (frame : List ℕ) (place : ℕ) (trace after : Trace) (e y : P) → IsUnderWay part_of b d time first entered begun i now position frame trace → i < length now →
+  walk_stops : (i : ℕ) (now : List P) (position : ℕ) (frame : List ℕ) (place : ℕ) (trace after : Trace) (e y : P) → IsUnderWay part_of b d time first entered begun i now position frame trace → i < length now →
       IsLed b d time position frame (part_of (get_or now i e)) (part_of y) (Gone place) trace after →
       record { pieces = map part_of (set now i y); fate = Gone place; trace = after } ≡ led [] begun (long_traced b d time 1 (map part_of first) entered)
   walk_stops i now position frame place trace after e y way inside turn =
@@ -116,3 +116,26 @@ module _ {P F : Type 0} (part_of : P → Piece F) (b : Behaviour F) (d : Decidin
       ∙ ap (λ (l : List P). let w : Told F = record { pieces = map part_of l ++ []; fate = Out frame; trace = with_acts trace [] } in w) (sym (take_all i now past))
       ∙ ap (λ (l : List P). led (map part_of (take i now)) trace (long_traced b d time position (map part_of l) frame)) (sym (drop_all i now past))
       ∙ way.same
+
+  -- the part that was taken out of its place
+  taken_out : (i : ℕ) (now : List P) (position : ℕ) (frame : List ℕ) (trace after : Trace) (e out x y : P) (fate other : Fate) → i < length now → x ≡ get_or now i out → fate ≡ other →
+      IsLed b d time position frame (part_of x) (part_of y) fate trace after → IsLed b d time position frame (part_of (get_or now i e)) (part_of y) other trace after
+  taken_out i now position frame trace after e out x y fate other inside taken is turn =
+      subst (λ (f : Fate). IsLed b d time position frame (part_of (get_or now i e)) (part_of y) f trace after) is
+      (subst (λ (z : P). IsLed b d time position frame (part_of z) (part_of y) fate trace after) (taken ∙ get_or_default now i out e inside) turn)
+
+  pub part_goes_on : (i : ℕ) (now : List P) (position : ℕ) (frame next : List ℕ) (trace after : Trace) (e out x y left : P) (fate : Fate) (count : ℕ) →
+      IsUnderWay part_of b d time first entered begun i now position frame trace → i < length now → x ≡ get_or now i out → count ≡ count_of (part_of (get_or now i e)) → fate ≡ Out next →
+      IsLed b d time position frame (part_of x) (part_of y) fate trace after → IsUnderWay part_of b d time first entered begun (i + 1) (set (set now i left) i y) (position + count) next after
+  part_goes_on i now position frame next trace after e out x y left fate count way inside taken counted is turn =
+      subst (λ (l : List P). IsUnderWay part_of b d time first entered begun (i + 1) l (position + count) next after) (sym (set-set now i left y))
+      (subst (λ (n : ℕ). IsUnderWay part_of b d time first entered begun (i + 1) (set now i y) (position + n) next after) (sym counted)
+      (walk_goes_on i now position frame next trace after e y way inside (taken_out i now position frame trace after e out x y fate (Out next) inside taken is turn)))
+
+  pub part_stops : (i : ℕ) (now : List P) (position : ℕ) (frame : List ℕ) (place : ℕ) (trace after : Trace) (out x y left : P) (fate : Fate) →
+      IsUnderWay part_of b d time first entered begun i now position frame trace → i < length now → x ≡ get_or now i out → fate ≡ Gone place →
+      IsLed b d time position frame (part_of x) (part_of y) fate trace after →
+      record { pieces = map part_of (set (set now i left) i y); fate = Gone place; trace = after } ≡ led [] begun (long_traced b d time 1 (map part_of first) entered)
+  part_stops i now position frame place trace after out x y left fate way inside taken is turn =
+      ap (λ (l : List P). let w : Told F = record { pieces = map part_of l; fate = Gone place; trace = after } in w) (set-set now i left y)
+      ∙ walk_stops i now position frame place trace after out y way inside (taken_out i now position frame trace after out out x y fate (Gone place) inside taken is turn)

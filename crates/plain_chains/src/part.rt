@@ -1,10 +1,11 @@
 //! The way of one packet through one part of a chain.
-ghost use Rattle.std.specs.Prelude.{◌≡◌, [], ◌≤◌, ◌+◌, length, true, false, IfOk, OnOk};
+ghost use Rattle.std.specs.Prelude.{◌≡◌, [], ◌∷◌, ◌≤◌, ◌+◌, length, false, IfOk, OnOk};
 ghost use Rattle.packet_fields.specs.Checksums.{sealed};
 ghost use Rattle.piece_walk.specs.Pieces.{count_of};
 ghost use Rattle.piece_walk.specs.Rejoining.{sealed_by};
 ghost use Rattle.chain_walk.specs.declared.walk.Fate.TheVariants.{Out};
-ghost use Rattle.traced_walk.specs.Traced.{traced};
+ghost use Rattle.nf_tunnel.specs.Tunnels.{decapsulated, encapsulated};
+ghost use Rattle.traced_walk.specs.Traced.{rewriting, traced};
 ghost use Rattle.traced_run.specs.Telling.{with_act, with_acts};
 ghost use Rattle.policy_chains.specs.NamedFunctions.{named_behaviour, named_decides};
 ghost use Rattle.policy_chains.specs.Parts.{part_of};
@@ -20,39 +21,34 @@ use std::sync::Wait;
 use traced_run::{Trace, trace_chain};
 
 /// Leads a packet through one part, whose first function has this `position` in the chain, and adds what its functions
-/// did to `trace`. The only error is that memory runs out.
+/// did to `trace`. The only error is that memory runs out, and then the part is lost.
 #[tactic(auto, using(crate::proofs::Parting::functions_lead, crate::proofs::Parting::end_leads))]
 pub(crate) fn lead_part<R: Wait>(
     rt: &R,
     alloc: Global,
-    part: &mut ChainPart,
+    part: ChainPart,
     position: u32,
     time: u64,
     frame: Frame,
     trace: &mut Trace,
-) -> Result<Fate, AllocError>
-    requires { position + count_of (part_of part.old) ≤ 65 }
-    ensures { IfOk result (λ fate. IsLed named_behaviour named_decides time position frame (part_of part.old) (part_of part.new) fate trace.old trace.new) }
+) -> Result<(ChainPart, Fate), AllocError>
+    requires { position + count_of (part_of part) ≤ 65 }
+    ensures { IfOk result (λ led. IsLed named_behaviour named_decides time position frame (part_of part) (part_of led.0) led.1 trace.old trace.new) }
 {
     match part {
         ChainPart::Functions(functions) => {
-            lead_functions(
-                rt,
-                alloc,
-                functions.as_mut_slice(),
-                position,
-                time,
-                frame,
-                trace,
-            )
+            let (functions, fate) = lead_functions(
+                rt, alloc, functions, position, time, frame, trace,
+            )?;
+            Ok((ChainPart::Functions(functions), fate))
         }
         ChainPart::Encap(tunnel) => {
-            let after = tunnel.step(alloc, copy(alloc, &frame)?)?;
-            lead_end(alloc, &frame, after, trace)
+            let fate = lead_encap(alloc, tunnel, frame, trace)?;
+            Ok((ChainPart::Encap(tunnel), fate))
         }
         ChainPart::Decap(tunnel) => {
-            let after = tunnel.step(copy(alloc, &frame)?)?;
-            lead_end(alloc, &frame, after, trace)
+            let fate = lead_decap(alloc, tunnel, frame, trace)?;
+            Ok((ChainPart::Decap(tunnel), fate))
         }
     }
 }
@@ -61,34 +57,65 @@ pub(crate) fn lead_part<R: Wait>(
 fn lead_functions<R: Wait>(
     rt: &R,
     alloc: Global,
-    functions: &mut [NamedFunction],
+    functions: Vec<NamedFunction>,
     position: u32,
     time: u64,
     frame: Frame,
     trace: &mut Trace,
-) -> Result<Fate, AllocError>
-    requires { position + length functions.old ≤ 65 }
-    ensures fate { IfOk result (λ fate. fate ≡ sealed_by frame (traced named_behaviour named_decides time position functions.old frame).fate) }
-    ensures functions { OnOk result (functions.new ≡ (traced named_behaviour named_decides time position functions.old frame).functions) }
-    ensures acts { OnOk result (trace.new ≡ with_acts trace.old (traced named_behaviour named_decides time position functions.old frame).acts) }
+) -> Result<(Vec<NamedFunction>, Fate), AllocError>
+    requires { position + length functions.items ≤ 65 }
+    ensures functions { IfOk result (λ led. led.0.items ≡ (traced named_behaviour named_decides time position functions.items frame).functions) }
+    ensures fate { IfOk result (λ led. led.1 ≡ sealed_by frame (traced named_behaviour named_decides time position functions.items frame).fate) }
+    ensures acts { OnOk result (trace.new ≡ with_acts trace.old (traced named_behaviour named_decides time position functions.items frame).acts) }
 {
+    let mut functions = functions;
     let entered = copy(alloc, &frame)?;
-    let fate = trace_chain(rt, alloc, functions, position, time, frame, trace)?;
-    Ok(seal_fate(entered.bytes(), fate))
+    let row = functions.as_mut_slice();
+    let fate = trace_chain(rt, alloc, row, position, time, frame, trace)?;
+    Ok((functions, seal_fate(entered.bytes(), fate)))
+}
+
+// Leads a packet through the entry of a tunnel.
+fn lead_encap(
+    alloc: Global,
+    tunnel: Encap,
+    frame: Frame,
+    trace: &mut Trace,
+) -> Result<Fate, AllocError>
+    ensures fate { IfOk result (λ fate. fate ≡ Out (encapsulated tunnel frame)) }
+    ensures acts { OnOk result (trace.new ≡ with_acts trace.old (rewriting (encapsulated tunnel) frame ∷ [])) }
+{
+    let after = tunnel.step(alloc, copy(alloc, &frame)?)?;
+    add_rewritten(alloc, &frame, &after, trace)?;
+    Ok(Fate::Out(after))
+}
+
+// Leads a packet through the exit of a tunnel.
+fn lead_decap(
+    alloc: Global,
+    tunnel: Decap,
+    frame: Frame,
+    trace: &mut Trace,
+) -> Result<Fate, AllocError>
+    ensures fate { IfOk result (λ fate. fate ≡ Out (decapsulated tunnel frame)) }
+    ensures acts { OnOk result (trace.new ≡ with_acts trace.old (rewriting (decapsulated tunnel) frame ∷ [])) }
+{
+    let after = tunnel.step(copy(alloc, &frame)?)?;
+    add_rewritten(alloc, &frame, &after, trace)?;
+    Ok(Fate::Out(after))
 }
 
 // Adds the act of one end of a tunnel, which rewrote a frame whole.
-fn lead_end(
+fn add_rewritten(
     alloc: Global,
     before: &Frame,
-    after: Frame,
+    after: &Frame,
     trace: &mut Trace,
-) -> Result<Fate, AllocError>
-    ensures fate { IfOk result (λ fate. fate ≡ Out after) }
-    ensures acts { OnOk result (trace.new ≡ with_act trace.old (record { lines = []; dropped = false; before = before.now; after = after })) }
+) -> Result<(), AllocError>
+    ensures { OnOk result (trace.new ≡ with_act trace.old (record { lines = []; dropped = false; before = before.now; after = after.now })) }
 {
-    trace.add_passed(alloc, Items::new(Vec::new(alloc)), before, &after)?;
-    Ok(Fate::Out(after))
+    let lines = Items::new(Vec::new(alloc));
+    trace.add_passed(alloc, lines, before, after)
 }
 
 /// The same frame once more.
@@ -108,27 +135,11 @@ fn seal_fate(before: &[u8], fate: Fate) -> Fate
     }
 }
 
-// The frame with its checksums adjusted to what changed. To compare frames is far cheaper than to seal one.
+// The frame with its checksums adjusted to what changed.
 fn seal_frame(before: &[u8], frame: Frame) -> Frame
     ensures { result ≡ sealed before.now frame }
 {
-    if is_sealed(before, frame.bytes()) {
-        return frame;
-    }
     let mut bytes = frame.into_bytes();
-    seal(before, &mut bytes);
+    seal(before, bytes.as_mut_slice());
     Frame::new(bytes)
 }
-
-// Is a frame the same as before, so that there is nothing to adjust?
-fn is_sealed(before: &[u8], after: &[u8]) -> bool
-    ensures { result ≡ true → sealed before.now after.now ≡ after.now }
-{
-    unchanged_is_sealed(before);
-    before == after
-}
-
-// A law: to seal a frame by itself changes nothing.
-fn unchanged_is_sealed(frame: &[u8])
-    ensures { sealed frame.now frame.now ≡ frame.now }
-{}

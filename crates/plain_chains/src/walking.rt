@@ -11,6 +11,7 @@ use chain_walk::Fate;
 use packet_fields::Frame;
 use policy_chains::ChainPart;
 use std::alloc::{AllocError, Global};
+use std::mem;
 use std::sync::Wait;
 use traced_run::Trace;
 
@@ -33,7 +34,10 @@ pub(crate) fn walk_parts<R: Wait>(
     let mut position = 1;
     'parts: for index in 0..parts.len() {
         let count = count_of(&parts[index]);
-        match lead_part(rt, alloc, &mut parts[index], position, time, frame, trace)? {
+        let part = mem::replace(&mut parts[index], ChainPart::Functions(Vec::new(alloc)));
+        let (part, fate) = lead_part(rt, alloc, part, position, time, frame, trace)?;
+        parts[index] = part;
+        match fate {
             Fate::Out(next) => frame = next,
             Fate::Gone(place) => return Ok(Fate::Gone(place)),
         }
