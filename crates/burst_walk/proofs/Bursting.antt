@@ -32,7 +32,7 @@ packets_told fits chains unit [] told held = refl
 packets_told fits chains unit (i ∷ items) told held =
     let own : fits ≡ map (λ (c : ChainPolicy). c.fit) (chains_of chains).declared = told ∙ sym (fits_twice chains) in
     let class : i.class ≡ class_of (map (λ (c : ChainPolicy). c.fit) (chains_of chains).declared) i.packet.frame =
-        (All-head (IsClassed fits) i items held).class ∙ ap (λ l. class_of l i.packet.frame) own in
+    (All-head (IsClassed fits) i items held).class ∙ ap (λ l. class_of l i.packet.frame) own in
     λ j. record { class = class j; packet = (classed_item unit i).packet } ∷ packets_told fits chains unit items told (All-tail (IsClassed fits) i items held) j
 
 -- the chain that takes a packet is one of those that are asked
@@ -113,7 +113,7 @@ AreWoven = (b : Behaviour NamedFunction) (chains : List (List (Piece NamedFuncti
 pub burst_fates : (fits : List Match) (unit : TimeUnit) (items : List Item) (before : List ServiceChain) (rows : List (List Fate)) (fates : List (Option Fate)) → AreWoven → fits ≡ fits_of before →
     All (IsClassed fits) items →
     rows ≡ each_fates named_behaviour (classed_items unit items) 0 (chains_of before).pieces → fates ≡ woven (map (λ i. i.class) items) rows →
-        all_ended items fates ≡ fates_of (chains_of before) unit (records_of items)
+    all_ended items fates ≡ fates_of (chains_of before) unit (records_of items)
 unfolding fates_of
 burst_fates fits unit items before rows fates weaves told held each is =
     let chains = (chains_of before).pieces in

@@ -92,7 +92,7 @@ leading_begins row_of packets chains left led rows all none no_rows = record {
 pub leading_goes_on : {V : Type 0} (row_of : V →
     List Fate) (packets : List Classed) (chains left left' led led' : List ServiceChain) (number : ℕ) (rows rows' : List V) (chain after : ServiceChain) (fate_row : V) →
     IsLeading row_of packets chains left led number rows → left ≡ chain ∷ left' → LeadsChain packets number chain after →
-        row_of fate_row ≡ long_fates named_behaviour (pieces_in chain) (packets_in number packets) →
+    row_of fate_row ≡ long_fates named_behaviour (pieces_in chain) (packets_in number packets) →
     All IsWritable (row_of fate_row) → led' ≡ led ++ after ∷ [] → rows' ≡ rows ++ fate_row ∷ [] → IsLeading row_of packets chains left' led' (number + 1) rows'
 leading_goes_on row_of packets chains left left' led led' number rows rows' chain after fate_row at next leads are writable more more_rows =
     let many : length (map pieces_in at.done) ≡ length at.done = length-map at.done pieces_in in

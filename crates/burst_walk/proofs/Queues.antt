@@ -62,7 +62,7 @@ next_class items rows queues fates index item at inside is classes =
 one_more : (items : List Item) (rows queues queues' : List (List Fate)) (fates : List (Option Fate)) (index : ℕ) (item : Item) (next : Option Fate) → IsWeaving items rows queues fates index →
     index < length items →
     item ≡ slice_index_or items index item → IfSome item.class (λ chain. chain < length queues) → next ≡ next_fate queues item.class → queues' ≡ fates_left queues item.class →
-        IsWeaving items rows queues' (fates ++ next ∷ []) (index + 1)
+    IsWeaving items rows queues' (fates ++ next ∷ []) (index + 1)
 one_more items rows queues queues' fates index item next at inside is fits taken left = record {
   due = append_assoc fates (next ∷ []) (woven (drop (index + 1) (classes_of items)) queues') ∙ ap (λ l. fates ++ l) (sym (due_next items queues queues' index item next inside is taken left)) ∙ at.due;
   many = ap length left ∙ length-fates_left queues item.class ∙ at.many;
@@ -84,7 +84,7 @@ one_more items rows queues queues' fates index item next at inside is fits taken
 pub weaving_goes_on : {V W : Type 0} (row_of : V → List Fate) (given_of : W →
     List Fate) (items : List Item) (rows : List W) (queues lent after now : List V) (fates fates' : List (Option Fate)) (index : ℕ) (item : Item) (next : Option Fate) →
     IsWeaving items (map given_of rows) (map row_of queues) fates index → index < length items → item ≡ slice_index_or items index item →
-        All (λ i. IfSome i.class (λ chain. chain < length rows)) items →
+    All (λ i. IfSome i.class (λ chain. chain < length rows)) items →
     lent ≡ queues → next ≡ next_fate (map row_of lent) item.class → map row_of after ≡ fates_left (map row_of lent) item.class → now ≡ after → fates' ≡ fates ++ next ∷ [] →
     IsWeaving items (map given_of rows) (map row_of now) fates' (index + 1)
 weaving_goes_on row_of given_of items rows queues lent after now fates fates' index item next at inside is classes same taken left written pushed =
@@ -119,7 +119,7 @@ taken_off row left (Some fate) is none = ap (drop 1) is
 -- the rows are left so
 pub row_left : {V : Type 0} (row_of : V → List Fate) (rows : List V) (class : Option ℕ) (chain : ℕ) (d after : V) (next : Option Fate) → class ≡ Some chain → chain < length rows →
     row_of (slice_index_or rows chain d) ≡ option_to_list next ++ row_of after → (next ≡ None → length (row_of (slice_index_or rows chain d)) ≡ 0) →
-        map row_of (set rows chain after) ≡ fates_left (map row_of rows) class
+    map row_of (set rows chain after) ≡ fates_left (map row_of rows) class
 row_left row_of rows class chain d after next taken inside gives none =
     let here : at_chain (map row_of rows) chain ≡ row_of (slice_index_or rows chain d) = get_or-map row_of rows chain d [] inside in
     let rest : drop 1 (row_of (slice_index_or rows chain d)) ≡ row_of after = taken_off (row_of (slice_index_or rows chain d)) (row_of after) next gives none in

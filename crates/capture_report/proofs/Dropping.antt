@@ -32,7 +32,7 @@ lines_up_to names first items fates index number item fate inside inside' is is'
     go index first (i ∷ items) [] inside inside' is is' = absurd (omega arith)
     go zero first (i ∷ items) (f ∷ fates) inside inside' is is' =
         append-nil (drop_line names first i.class (ended i.packet f)) ∙ (let same : first ≡ first + 0 =
-            omega arith in λ j. drop_line names (same j) (sym is j).class (ended (sym is j).packet (sym is' j)))
+        omega arith in λ j. drop_line names (same j) (sym is j).class (ended (sym is j).packet (sym is' j)))
     go (suc index) first (i ∷ items) (f ∷ fates) inside inside' is is' =
         ap (λ l. drop_line names first i.class (ended i.packet f) ++ l)
         (go index (first + 1) items fates (omega arith) (omega arith) is is'

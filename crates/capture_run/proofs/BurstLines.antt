@@ -26,11 +26,11 @@ use Rattle.capture_run.proofs.Walking.{length-fates_of}
 -- the lines that are made are those that come next
 pub made_lines : {W : Type 0} (p : Passage W) (items items' : List Item) (after after' : List ServiceChain) (fates fates' : List (Option Fate)) (text text' : List ℕ) →
     map (λ (i : Item). i.class) items ≡ map (λ (x : Classed). x.class) (packets_next p (records_of items)) → LeadsEach (packets_next p (records_of items)) 0 p.service.chains after →
-        all_ended items fates ≡ fates_next p (records_of items) → items' ≡ items → after' ≡ after → fates' ≡ fates →
+    all_ended items fates ≡ fates_next p (records_of items) → items' ≡ items → after' ≡ after → fates' ≡ fates →
     text ≡ drop_lines (names_among (chains_of after')) (next_number p) (map (λ i. i.class) items') (all_ended items' fates') → text' ≡ text → text' ≡ lines_next p (records_of items)
 made_lines p items items' after after' fates fates' text text' by_record led end same same_chains same_fates made same_text =
     let names : names_among (chains_of after') ≡ names_among (chains_of p.service.chains) =
-        ap (λ l. names_among (chains_of l)) same_chains ∙ each_names (packets_next p (records_of items)) 0 p.service.chains after led in
+    ap (λ l. names_among (chains_of l)) same_chains ∙ each_names (packets_next p (records_of items)) 0 p.service.chains after led in
     let classes : map (λ (i : Item). i.class) items' ≡ map (λ (x : Classed). x.class) (packets_next p (records_of items)) =
     ap (map (λ (i : Item). i.class)) same ∙ by_record in
     let ends : all_ended items' fates' ≡ fates_next p (records_of items) = (λ i. all_ended (same i) (same_fates i)) ∙ end in

@@ -63,15 +63,18 @@ pub breaks_at_records : {W X B : Type 0} (spelled : W → Given X B → List ℕ
 breaks_at_records spelled service unit sink stream old mid new e first broken = record {
   goes = goes_more old mid new (goes_by _ _ old mid first) broken.goes;
   cause = earlier_cause old mid new e first.later broken.cause;
-  prefixes = if_some stream _ _ (λ b x. (records_refused _ (chains_of service.chains) unit (records_in b.given) b.fault old mid new e first (record { prefixes = x; cause =
-      broken.cause })).prefixes) broken.prefixes;
+  prefixes = if_some stream _ _ (λ b x. (records_refused _ (chains_of service.chains) unit (records_in b.given) b.fault old mid new e first (record {
+    prefixes = x;
+    cause =
+        broken.cause;
+  })).prefixes) broken.prefixes;
 }
 
 pub breaks_at_summary : {W X B : Type 0} (spelled : W → Given X B →
     List ℕ) (service : Service) (unit : TimeUnit) (sink : W) (run : Passage W × Option FormatFault) (stream : Option (Stream X B)) (old mid now new : Slot → SlotView) (e : RunFault) →
     IsOpening service →
     Puts [] title old mid → RunsAll spelled (started service unit sink) stream mid now run → Breaks [] (told_text run.0.service.chains (ended_so run)) now new e →
-        WriteBreaks (spelled sink) (chains_of service.chains) unit stream old new e
+    WriteBreaks (spelled sink) (chains_of service.chains) unit stream old new e
 breaks_at_summary spelled service unit sink run stream old mid now new e opening first ran refused = record {
   goes = goes_more old mid new (goes_by _ _ old mid first) (goes_more mid now new ran.goes (broken_goes _ _ now new e refused));
   cause = earlier_cause old now new e (later_more old mid now first.later ran.goes.later) refused.cause;
@@ -82,7 +85,7 @@ breaks_at_summary spelled service unit sink run stream old mid now new e opening
 pub writes_all : {W X B : Type 0} (spelled : W → Given X B →
     List ℕ) (service : Service) (unit : TimeUnit) (sink : W) (run : Passage W × Option FormatFault) (stream : Option (Stream X B)) (old mid now new : Slot → SlotView) → IsOpening service →
     Puts [] title old mid → RunsAll spelled (started service unit sink) stream mid now run → Puts [] (told_text run.0.service.chains (ended_so run)) now new →
-        WritesAll (spelled sink) (chains_of service.chains) unit stream old new (ended_so run)
+    WritesAll (spelled sink) (chains_of service.chains) unit stream old new (ended_so run)
 writes_all spelled service unit sink run stream old mid now new opening first ran last = record {
   goes = goes_more old mid new (goes_by _ _ old mid first) (goes_more mid now new ran.goes (goes_by _ _ now new last));
   within = ran.within;

@@ -115,7 +115,7 @@ advances_more law spelled xs ys a b c first second = record {
   read = let e = length-append xs ys in let h = first.read in let k = second.read in omega arith;
   dropped =
       let e : count_by is_gone (fates_next a (xs ++ ys)) ≡ count_by is_gone (fates_next a xs) + count_by is_gone (fates_next b ys) =
-          ap (count_by is_gone) (fates_more spelled xs ys a b first) ∙ gone-append (fates_next a xs) (fates_next b ys) in
+      ap (count_by is_gone) (fates_more spelled xs ys a b first) ∙ gone-append (fates_next a xs) (fates_next b ys) in
       let h = first.dropped in
       let k = second.dropped in
       omega arith;

@@ -59,8 +59,11 @@ runs_all {X = X} {B = B} spelled p run start left all old new passes whole empty
   goes = goes_by _ _ old new passes.puts;
   within = within;
   kind = kind;
-  passed = if_some start _ _ (λ s is. subst (λ (x : Stream X B). PassesStream spelled p run.0 run.1 old new x) (sym is) (record { passes = passes; fault_is =
-      refl })) (settled start left all run.1 whole empty);
+  passed = if_some start _ _ (λ s is. subst (λ (x : Stream X B). PassesStream spelled p run.0 run.1 old new x) (sym is) (record {
+    passes = passes;
+    fault_is =
+        refl;
+  })) (settled start left all run.1 whole empty);
 }
 
 -- this is the front of what the capture gives

@@ -79,7 +79,7 @@ one_more cut beside packet x class many =
 pub takes_open : {W X B : Type 0} (spelled : W → Given X B → List ℕ) (cut cut' : Cutting) (beside beside' : List X) (packet : PcapRecord) (x : X) (class : Option ℕ) (p : Passage W) (old : Slot →
     SlotView) → All (IsClassed p.service.classes) cut.held → IsTold p → IsShort packet →
     length beside ≡ length cut.held → class ≡ class_of p.service.classes packet.frame → ¬ IsTrue (closes cut packet class) → cut' ≡ after cut packet class → beside' ≡ beside ++ x ∷ [] →
-        Takes spelled cut beside cut' beside' (Packet packet x) p p old old
+    Takes spelled cut beside cut' beside' (Packet packet x) p p old old
 takes_open spelled cut cut' beside beside' packet x class p old held told short many is_class stays is one = go (closes cut packet class) refl
   where
     go : (b : Bool) → closes cut packet class ≡ b → Takes spelled cut beside cut' beside' (Packet packet x) p p old old
@@ -102,7 +102,7 @@ pub takes_closed : {W X B : Type 0} (spelled : W → Given X B →
     List ℕ) (cut cut' : Cutting) (beside all beside' : List X) (packet : PcapRecord) (x : X) (class : Option ℕ) (items : List Item) (p p' : Passage W) (old new : Slot → SlotView) →
     IsTrue (closes cut packet class) →
     cut' ≡ after cut packet class → items ≡ with_packet cut packet class → all ≡ beside ++ x ∷ [] → beside' ≡ [] → length beside ≡ length cut.held → IsTold p' →
-        Passes spelled (held_in items all) p p' old new →
+    Passes spelled (held_in items all) p p' old new →
     Takes spelled cut beside cut' beside' (Packet packet x) p p' old new
 takes_closed spelled cut cut' beside all beside' packet x class items p p' old new closed is are more none many told passes = go (closes cut packet class) refl
   where
@@ -124,7 +124,7 @@ takes_closed spelled cut cut' beside all beside' packet x class items p p' old n
 pub takes_broken : {W X B : Type 0} (spelled : W → Given X B →
     List ℕ) (cut : Cutting) (beside all : List X) (packet : PcapRecord) (x : X) (class : Option ℕ) (items : List Item) (p : Passage W) (old new : Slot → SlotView) (e : RunFault) →
     items ≡ with_packet cut packet class → all ≡ beside ++ x ∷ [] → length beside ≡ length cut.held → PassBreaks spelled (held_in items all) p old new e →
-        TakeBreaks spelled cut beside (Packet packet x) p old new e
+    TakeBreaks spelled cut beside (Packet packet x) p old new e
 takes_broken spelled cut beside all packet x class items p old new e are more many broken =
     subst (λ l. PassBreaks spelled l p old new e) ((λ i. held_in (are i) (more i)) ∙ sym (more_held cut beside packet x class many)) broken
 
@@ -133,7 +133,7 @@ pub takes_block : {W X B : Type 0} → CountsInARow →
     (spelled : W → Given X B → List ℕ) (cut cut' : Cutting) (beside beside' : List X) (b : B) (items : List Item) (p p' : Passage W) (w : W) (old mid new : Slot → SlotView) → cut' ≡ closed_now cut →
     items ≡ cut.held → beside' ≡ [] →
     IsTold p' → Passes spelled (held_in items beside) p p' old mid → spelled w ≡ spelled p'.writer → Puts (spelled p'.writer (Block b)) [] mid new →
-        Takes spelled cut beside cut' beside' (Block b) p (record p' { writer = w }) old new
+    Takes spelled cut beside cut' beside' (Block b) p (record p' { writer = w }) old new
 takes_block law spelled cut cut' beside beside' b items p p' w old mid new is are none told passes same put = record {
   ran = held_in items beside ++ Block b ∷ [];
   passes = passes_more law spelled (held_in items beside) (Block b ∷ []) p p' (record p' { writer = w }) old mid new passes (passes_block spelled p' w b mid new same put);
@@ -177,7 +177,7 @@ pub record IsAt {W X B S : Type 0} (spelled : W → Given X B → List ℕ) (lef
 pub at_begins : {W X B S : Type 0} (spelled : W → Given X B → List ℕ) (left : S → SlotView → Option (Stream X B)) (packets : S → ℕ) (is_open : S →
     Bool) (first : Passage W) (cut : Cutting) (beside : List X) (limit : ℕ) (source : S) (old : Slot → SlotView) →
     IsFresh first → cut ≡ record { limit = limit; added = 0; held = [] } → beside ≡ [] → packets source ≡ 0 → is_open source ≡ true →
-        IsAt spelled left packets is_open first first cut beside source source old old
+    IsAt spelled left packets is_open first first cut beside source source old old
 at_begins spelled left packets is_open first cut beside limit source old fresh new nothing none_given asked =
     let none = fresh.records in
     let gone = fresh.dropped in
@@ -219,10 +219,10 @@ pub at_goes_on : {W X B S : Type 0} → CountsInARow → (spelled : W → Given 
     Bool) (first p p' : Passage W) (cut cut' : Cutting) (beside beside' : List X) (start source source' : S) (x : Given X B)
     (old mid now new : Slot → SlotView) →
     IsAt spelled left packets is_open first p cut beside start source old mid → GivesNext left packets taken x source source' (mid slots.Capture) (now slots.Capture) → is_open source' ≡ true →
-        (mid slots.Capture).faults ≤ (now slots.Capture).faults →
+    (mid slots.Capture).faults ≤ (now slots.Capture).faults →
     (now slots.Capture).name ≡ (mid slots.Capture).name → ((s : Slot) → s ≢ slots.Capture → now s ≡ mid s) →
     Takes spelled cut beside cut' beside' x p p' now new → ((s : Slot) → s ≢ slots.Out → s ≢ slots.Report → new s ≡ now s) →
-        IsAt spelled left packets is_open first p' cut' beside' start source' old new
+    IsAt spelled left packets is_open first p' cut' beside' start source' old new
 at_goes_on {B = B} law spelled left packets taken is_open first p p' cut cut' beside beside' start source source' x old mid now new at gives asked later name around takes beyond =
     let capture : new slots.Capture ≡ now slots.Capture = beyond slots.Capture capture_is_not_out capture_is_not_report in
     let here : packets source ≡ cut.added = at.at in
@@ -243,7 +243,7 @@ at_goes_on {B = B} law spelled left packets taken is_open first p p' cut cut' be
           let row : length (records_in (held ++ x ∷ [])) ≡ length (records_in (takes.ran ++ held')) = ap (λ l. length (records_in l)) takes.row in
           let front = packets_among held x in
           let back : length (records_in (takes.ran ++ held')) ≡ length (records_in takes.ran) + length (records_in held') =
-              ap length (records-append takes.ran held') ∙ length-append (records_in takes.ran) (records_in held') in
+          ap length (records-append takes.ran held') ∙ length-append (records_in takes.ran) (records_in held') in
           let few : length (records_in held) ≡ length cut.held = ap length (records_held B cut.held beside at.as_many) ∙ length-map cut.held (λ i. i.packet) in
           let few' : length (records_in held') ≡ length cut'.held = ap length (records_held B cut'.held beside' takes.as_many) ∙ length-map cut'.held (λ i. i.packet) in
           omega arith;
@@ -261,7 +261,7 @@ at_last : {W X B S : Type 0} → CountsInARow → (spelled : W → Given X B →
     Bool) (first p : Passage W) (cut : Cutting) (beside : List X) (start source : S) (fault : Option FormatFault) (run : Passage W × Option FormatFault)
     (old mid now new : Slot → SlotView) → IsAt spelled left packets is_open first p cut beside start source old mid →
     IfSome (left source (mid slots.Capture)) (λ s. s ≡ record { given = []; fault = fault }) → IfSome fault (λ f. ¬ IsOpeningFault f) → Puts [] [] mid now →
-        Ends spelled (held_in cut.held beside) p fault now new run →
+    Ends spelled (held_in cut.held beside) p fault now new run →
     RunsAll spelled first (left start (old slots.Capture)) old new run
 at_last law spelled left packets is_open first p cut beside start source fault run old mid now new at empty kind reads ends =
     runs_all spelled first run (left start (old slots.Capture)) (left source (mid slots.Capture)) (at.done ++ held_in cut.held beside) old new
@@ -273,7 +273,7 @@ pub at_end : {W X B S : Type 0} → CountsInARow → (spelled : W → Given X B 
     Bool) (first p : Passage W) (cut : Cutting) (beside : List X) (start source : S) (run : Passage W × Option FormatFault)
     (old mid now new : Slot → SlotView) → IsAt spelled left packets is_open first p cut beside start source old mid →
     IfSome (left source (mid slots.Capture)) (λ s. s ≡ record { given = []; fault = None }) → (mid slots.Capture).faults ≤ (now slots.Capture).faults →
-        ((s : Slot) → s ≢ slots.Capture → now s ≡ mid s) → Ends spelled (held_in cut.held beside) p None now new run →
+    ((s : Slot) → s ≢ slots.Capture → now s ≡ mid s) → Ends spelled (held_in cut.held beside) p None now new run →
     RunsAll spelled first (left start (old slots.Capture)) old new run
 at_end law spelled left packets is_open first p cut beside start source run old mid now new at empty later around ends =
     at_last law spelled left packets is_open first p cut beside start source None run old mid now new at empty tt (puts_read mid now later around) ends
@@ -295,7 +295,7 @@ pub at_end_break : {W X B S : Type 0} (spelled : W → Given X B → List ℕ) (
     Bool) (first p : Passage W) (cut : Cutting) (beside : List X) (start source : S) (e : RunFault)
     (old mid now new : Slot → SlotView) → IsAt spelled left packets is_open first p cut beside start source old mid →
     (mid slots.Capture).faults ≤ (now slots.Capture).faults → ((s : Slot) → s ≢ slots.Capture → now s ≡ mid s) → PassBreaks spelled (held_in cut.held beside) p now new e →
-        RunBreaks spelled first (left start (old slots.Capture)) old new e
+    RunBreaks spelled first (left start (old slots.Capture)) old new e
 at_end_break spelled left packets is_open first p cut beside start source e old mid now new at later around broken =
     breaks_run spelled first (left start (old slots.Capture)) (left source (mid slots.Capture)) (at.done ++ held_in cut.held beside) old new e at.whole
     (breaks_next spelled at.done (held_in cut.held beside) first p old now new e (passes_read spelled at.done first p old mid now at.passes (puts_read mid now later around)) broken)
@@ -306,7 +306,7 @@ pub at_stop_break : {W X B S : Type 0} (spelled : W → Given X B → List ℕ) 
     (old mid now new : Slot → SlotView) → IsAt spelled left packets is_open first p cut beside start source old mid →
     (refusal ≡ refusals.ReadFault → IsRisen (mid slots.Capture).faults (now slots.Capture).faults) →
     (mid slots.Capture).faults ≤ (now slots.Capture).faults → ((s : Slot) → s ≢ slots.Capture → now s ≡ mid s) → StopBreaks spelled (held_in cut.held beside) p refusal now new e →
-        RunBreaks spelled first (left start (old slots.Capture)) old new e
+    RunBreaks spelled first (left start (old slots.Capture)) old new e
 at_stop_break spelled left packets is_open first p cut beside start source (refusals.Format fault) e old mid now new at rose later around broken =
     at_end_break spelled left packets is_open first p cut beside start source e old mid now new at later around broken
 at_stop_break spelled left packets is_open first p cut beside start source refusals.ReadFault e old mid now new at rose later around broken =

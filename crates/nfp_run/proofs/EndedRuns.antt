@@ -217,5 +217,5 @@ seen_write names options chains left old mid new (Err (faults.WriteFault x)) slo
 
 pub run_write_faults : (names : Names) (options : RunOptions) (chains : Chains) (left : Option Led) (old mid new : Slot → SlotView) (r : Result Ended RunFault) (ending : Ending) →
     Stands names.graph chains left old mid → IfErr r (IsBroken mid new) → ending ≡ ending_of r → (slot : Slot) → outcome_seen ending ≡ WriteFault slot →
-        WriteFaultCause (Ok (Run names options)) old new slot
+    WriteFaultCause (Ok (Run names options)) old new slot
 run_write_faults names options chains left old mid new r ending s cause is slot e = seen_write names options chains left old mid new r slot s cause (ap outcome_seen (sym is) ∙ e)

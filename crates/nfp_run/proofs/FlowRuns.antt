@@ -216,7 +216,7 @@ pub counted_prefixes : (names : FlowFiles) (options : FlowOptions) (head : Captu
     IfSome (old slots.Capture).bytes (λ c. (p g : List ℕ) → LeavesPrefixes (due_of_command (asked names options) p g c).written old new)
 counted_prefixes names options head reader old mid new r stands left =
     each (old slots.Capture).bytes (λ bytes. IsSomeAnd (body_left reader (mid slots.Capture)) (λ body. capture_of bytes ≡ Ok (head, body))) (λ c. (p g : List ℕ) →
-        LeavesPrefixes (due_of_command (asked names options) p g c).written old new)
+    LeavesPrefixes (due_of_command (asked names options) p g c).written old new)
     (λ bytes is p g. said head.unit head (body_left reader (mid slots.Capture)) bytes (λ body. FlowsEnd head.unit body mid new r) (λ due. LeavesPrefixes due.written old new) is left
     (λ body ends. prefixes_from (due_of_body head.unit body).written old mid new stands.same_out stands.same_report (ends_prefixes head.unit body mid new r ends))) stands.whole
 
@@ -241,7 +241,7 @@ counted_due : (names : FlowFiles) (options : FlowOptions) (head : CaptureHead) (
     IfSome (old slots.Capture).bytes (λ c. (p g : List ℕ) → EndsDue (due_of_command (asked names options) p g c) old new ending)
 counted_due names options head reader old mid new ending stands left =
     each (old slots.Capture).bytes (λ bytes. IsSomeAnd (body_left reader (mid slots.Capture)) (λ body. capture_of bytes ≡ Ok (head, body))) (λ c. (p g : List ℕ) →
-        EndsDue (due_of_command (asked names options) p g c) old new ending)
+    EndsDue (due_of_command (asked names options) p g c) old new ending)
     (λ bytes is p g. said head.unit head (body_left reader (mid slots.Capture)) bytes (λ body. FlowsEnd head.unit body mid new (Ok ending)) (λ due. EndsDue due old new ending) is left
     (λ body ends. body_due head.unit body old mid new ending stands.same_out stands.same_report ends)) stands.whole
 
@@ -309,7 +309,7 @@ counted_reaches names options old OutOfMemory is = absurd is
 pub exported : (names : FlowFiles) (options : FlowOptions) (head : CaptureHead) (reader : ReaderState) (old mid new : Slot → SlotView) (ending : Ending) → Stands head reader old mid →
     Stays names old new → FlowsEndTold ending → IsSome (new slots.Out).name →
     (outcome_seen ending ≡ Done → IsReadWhole (new slots.Capture)) → IfSome (body_left reader (mid slots.Capture)) (λ body. FlowsEnd head.unit body mid new (Ok ending)) →
-        Ran (asked names options) old new ending
+    Ran (asked names options) old new ending
 exported names options head reader old mid new ending stands stays told out drained left =
     let counted : IsCounted (outcome_seen ending) = told_counted ending told in
     record {

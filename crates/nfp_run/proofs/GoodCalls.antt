@@ -62,7 +62,7 @@ first_good chains c items (Err fault) good whole = absurd cc
 
 pub ng_run_is_done : (words : List (List ℕ)) (names : Names) (options : RunOptions) (p g c : List ℕ) (policy : Prepared) (items : List NgItem) →
     command_of words ≡ Ok (Run names options) → prepared names.graph p g ≡ Ok policy → is_ng c ≡ true → IsOk (next_of start c) → blocks_of start c ≡ record { items = items; fault = None } →
-        (due words p g c).outcome ≡ Done
+    (due words p g c).outcome ≡ Done
 ng_run_is_done words names options p g c policy items is good format first whole =
     ap (λ command. (due_of_command command p g c).outcome) is ∙ ap (λ r. (due_of_run r c).outcome) good
     ∙ ap (λ b. (due_by_format b (chains_prepared policy) c).outcome) format

@@ -86,7 +86,7 @@ ready_alone policy graphs ordered made few is = record {
 
 pub none_prepares : (old new : Slot → SlotView) (policy : Judged) (r : Result Prepared Ending) → IfSome (old slots.Policy).bytes (λ bytes. judged bytes ≡ Ok policy) →
     IfOk r (λ p. p ≡ record { judged = policy; graphs = map no_graph policy.policy.chains }) → IfErr r (λ ending. ending ≡ Stopped OutOfMemory) →
-        MatchResult r (Prepares None old) (EndsAtTexts None old new)
+    MatchResult r (Prepares None old) (EndsAtTexts None old new)
 none_prepares old new policy (Ok p) told is short = record {
   policy = has_policy old policy told;
   told = texts_by_policy None old _ _ (λ b g good. ap (λ r. prepared_by None r g) good ∙ ap Ok (sym is)) told;

@@ -192,7 +192,7 @@ none_shown chains orders graphs = record { due = refl }
 
 pub one_shown : (chains : List ChainPolicy) (orders : List Order) (graphs : List (Option StagedGraph)) (place : ℕ) (text text' : List ℕ) (c chain : ChainPolicy) (o order : Order) (g graph : Option StagedGraph) →
     IsShown chains orders graphs place text → place < length chains → place < length orders → place < length graphs → chain ≡ get_or chains place c → order ≡ get_or orders place o →
-        graph ≡ get_or graphs place g →
+    graph ≡ get_or graphs place g →
     text' ≡ text ++ chain_plan chain order.positions graph → IsShown chains orders graphs (place + 1) text'
 one_shown chains orders graphs place text text' c chain o order g graph at inside inside' inside'' is is' is'' more =
     let here : List ℕ = chain_plan chain order.positions graph in

@@ -25,6 +25,7 @@ use text_lines::push_pieces;
 use traced_run::TracedAct;
 
 /// Adds the trace of a packet that this chain took, behind its first line. The acts were kept with their frames.
+#[tactic(auto, using(crate::proofs::Keeping::told_trace))]
 pub fn push_trace(
     alloc: Global,
     text: &mut Vec<u8>,
@@ -60,6 +61,7 @@ fn push_kept(
 }
 
 // The declarations at these positions.
+#[tactic(auto, using(crate::proofs::Keeping::one_place))]
 fn in_order<'a>(
     alloc: Global,
     functions: &'a [FunctionDecl],
@@ -67,12 +69,28 @@ fn in_order<'a>(
 ) -> Result<Vec<&'a FunctionDecl>, AllocError>
     ensures { IfOk result (λ order. map (λ d. d.now) order.items ≡ filter_map (λ place. slice_get functions.now place) positions.now) }
 {
-    positions
-        .iter()
-        .filter_map(|place| functions.get(*place as usize))
-        .collect(alloc)
+    let mut order = Vec::new(alloc);
+    'positions: for position in positions {
+        push_decl(&mut order, functions, *position)?;
+    }
+    Ok(order)
 }
 
+// Adds the declaration at this place, if there is one.
+fn push_decl<'a>(
+    order: &mut Vec<&'a FunctionDecl>,
+    functions: &'a [FunctionDecl],
+    place: u32,
+) -> Result<(), AllocError>
+    ensures { OnOk result (map (λ d. d.now) order.new.items ≡ map (λ d. d.now) order.old.items ++ filter_map (λ p. slice_get functions.now p) (place ∷ [])) }
+{
+    if let Some(decl) = functions.get(place as usize) {
+        order.push(decl)?;
+    }
+    Ok(())
+}
+
+#[tactic(auto, using(crate::proofs::Keeping::none_kept, crate::proofs::Keeping::one_more))]
 fn push_acts(
     alloc: Global,
     text: &mut Vec<u8>,
@@ -88,6 +106,7 @@ fn push_acts(
 }
 
 // Adds what the function at this place did, if there is one.
+#[tactic(auto, using(crate::proofs::Keeping::decl_at, crate::proofs::Keeping::no_decl_at))]
 fn push_act_at(
     alloc: Global,
     text: &mut Vec<u8>,

@@ -13,7 +13,7 @@ returns-in_err-tell_functions-clause-err g c =
     let held = c.push_head.new.held.items in
     let last = last_line c.args.ended.fault in
     let parts : held ++ (listed c.args.chains.now ++ last) ≡ told_text c.args.chains.now c.args.ended =
-        told_parts c.args.chains.now c.args.ended _ held c.in_ok-held.ensures.items c.in_ok-push_head.ensures in
+    told_parts c.args.chains.now c.args.ended _ held c.in_ok-held.ensures.items c.in_ok-push_head.ensures in
     handed_on c.from_residual-in_err-tell_functions.result c.in_err-tell_functions.field-0.0 _ c.from_residual-in_err-tell_functions.ensures.1
     (subst (λ t. Breaks [] t (g.D.Desk.slots c.args.desk.now) (g.D.Desk.slots c.tell_functions.new.desk) c.in_err-tell_functions.field-0.0) (append_assoc held (listed c.args.chains.now) last ∙ parts)
     (breaks_within (held ++ listed c.args.chains.now) last _ _ _ c.in_err-tell_functions.ensures.err))
@@ -23,7 +23,7 @@ returns-in_err-push_last_line-clause-err g c =
     let held = c.push_head.new.held.items in
     let last = last_line c.args.ended.fault in
     let parts : held ++ (listed c.args.chains.now ++ last) ≡ told_text c.args.chains.now c.args.ended =
-        told_parts c.args.chains.now c.args.ended _ held c.in_ok-held.ensures.items c.in_ok-push_head.ensures in
+    told_parts c.args.chains.now c.args.ended _ held c.in_ok-held.ensures.items c.in_ok-push_head.ensures in
     handed_on c.from_residual-in_err-push_last_line.result OutOfMemory _ c.from_residual-in_err-push_last_line.ensures.1
     (subst (λ t. Breaks [] t (g.D.Desk.slots c.args.desk.now) (g.D.Desk.slots c.tell_functions.new.desk) OutOfMemory) parts
     (gather_breaks (listed c.args.chains.now) last held c.tell_functions.new.held.items _ (g.D.Desk.slots c.tell_functions.new.desk) _ OutOfMemory c.in_ok-tell_functions.ensures.ok (no_memory _ _ (g.D.Desk.slots c.tell_functions.new.desk))))
@@ -33,7 +33,7 @@ returns-clause-ok g c =
     let held = c.push_head.new.held.items in
     let last = last_line c.args.ended.fault in
     let parts : held ++ (listed c.args.chains.now ++ last) ≡ told_text c.args.chains.now c.args.ended =
-        told_parts c.args.chains.now c.args.ended _ held c.in_ok-held.ensures.items c.in_ok-push_head.ensures in
+    told_parts c.args.chains.now c.args.ended _ held c.in_ok-held.ensures.items c.in_ok-push_head.ensures in
     on_ok c.put_text.result _ _
     (λ put. subst (λ t. Puts [] t (g.D.Desk.slots c.args.desk.now) (g.D.Desk.slots c.put_text.new.desk)) parts
     (gathered_put (listed c.args.chains.now ++ last) held c.push_last_line.new.text.items _ (g.D.Desk.slots c.tell_functions.new.desk) (g.D.Desk.slots c.put_text.new.desk)
@@ -46,7 +46,7 @@ returns-clause-err g c =
     let held = c.push_head.new.held.items in
     let last = last_line c.args.ended.fault in
     let parts : held ++ (listed c.args.chains.now ++ last) ≡ told_text c.args.chains.now c.args.ended =
-        told_parts c.args.chains.now c.args.ended _ held c.in_ok-held.ensures.items c.in_ok-push_head.ensures in
+    told_parts c.args.chains.now c.args.ended _ held c.in_ok-held.ensures.items c.in_ok-push_head.ensures in
     if_err c.put_text.result _ _
     (λ e broken. subst (λ t. Breaks [] t (g.D.Desk.slots c.args.desk.now) (g.D.Desk.slots c.put_text.new.desk) e) parts
     (gather_breaks (listed c.args.chains.now) last held c.tell_functions.new.held.items _ (g.D.Desk.slots c.tell_functions.new.desk) _ e c.in_ok-tell_functions.ensures.ok
