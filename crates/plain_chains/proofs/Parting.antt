@@ -18,8 +18,10 @@ use Rattle.plain_chains.proofs.OnePart.{through_functions, through_whole}
 use Rattle.plain_chains.proofs.Staying.{profiles_stay}
 
 -- functions in a row are compiled to the same stages after a packet
-same_stages : (time position : ℕ) (functions : List NamedFunction) (frame : List ℕ) → stages_of (traced named_behaviour named_decides time position functions frame).functions ≡ stages_of functions
-same_stages time position functions frame = ap (λ (profiles : List Profile). (graph_of profiles).stages) (profiles_stay named_behaviour named_decides time position functions frame named_keeps)
+same_stages : (time position : ℕ) (functions : List NamedFunction) (frame : List ℕ) →
+    stages_of (traced named_behaviour named_decides time position functions frame).functions ≡ stages_of functions
+same_stages time position functions frame = ap (λ (profiles : List Profile). (graph_of profiles).stages)
+    (profiles_stay named_behaviour named_decides time position functions frame named_keeps)
 
 pub functions_lead : (time position : ℕ) (frame : List ℕ) (old new : List NamedFunction) (fate : Fate) (start end : Trace) →
     new ≡ (traced named_behaviour named_decides time position old frame).functions →
