@@ -6,7 +6,8 @@ ghost use Rattle.policy_judge.specs.declared.fault.PolicyFault.{PolicyFault};
 ghost use Rattle.command_words.specs.declared.usage.UsageFault.{UsageFault};
 ghost use Rattle.command_words.specs.WhyWords.{why_of};
 ghost use Rattle.call_ending.specs.Left.{IsFinal, LeavesPrefix, LeavesSlot, NoneRose, note_due};
-ghost use Rattle.why_call.specs.Answers.{AttachesDue, HasNames, IsDue, NotesPrefix, PolicyCause, ReachesCapture, ReadFaultCause, ReadsToEnd, WhereRead, WriteFaultCause};
+ghost use Rattle.why_call.specs.Answers.{AttachesDue, HasNames, IsDue, NotesPrefix, PolicyCause, ReachesCapture, ReadsToEnd, WhereRead};
+ghost use Rattle.why_call.specs.Answers.{ReadFaultCause, WriteFaultCause};
 ghost use Rattle.why_call.specs.Due.{why_due};
 
 use crate::ending::put_ending;
@@ -32,7 +33,8 @@ pub fn why<R: Wait, D: Desk>(rt: &R, alloc: Global, words: &[String], desk: &mut
 
     // The clauses on what is due hold if the desk shows what the words read: the policy and the capture, or neither. If no
     // count of the desk rose, the outcome is the one that is due and the slots hold what is due, or memory ran out.
-    ensures answers { NoneRose (D.slots desk.old) (D.slots desk.new) → WhereRead (why_of (map string_bytes words.now)) (D.slots desk.old) (λ p c.
+    ensures answers { NoneRose (D.slots desk.old) (D.slots desk.new)
+        → WhereRead (why_of (map string_bytes words.now)) (D.slots desk.old) (λ p c.
         (IsDue (why_due (map string_bytes words.now) p c) (D.slots desk.old) (D.slots desk.new) result
         × Appends (why_due (map string_bytes words.now) p c).note (D.slots desk.old Slot.Note) (D.slots desk.new Slot.Note))
         ⊎ (result ≡ Outcome.OutOfMemory)) }
@@ -45,9 +47,12 @@ pub fn why<R: Wait, D: Desk>(rt: &R, alloc: Global, words: &[String], desk: &mut
 
     // Note holds a prefix of its text, and the whole of it unless its own count rose.
     ensures noted { result ≢ Outcome.OutOfMemory → WhereRead (why_of (map string_bytes words.now)) (D.slots desk.old) (λ p c.
-        AppendsPrefix (note_due result (why_due (map string_bytes words.now) p c).note) (D.slots desk.old Slot.Note) (D.slots desk.new Slot.Note)) }
-    ensures noted_whole { result ≢ Outcome.OutOfMemory → ¬ IsRisen (D.slots desk.old Slot.Note).faults (D.slots desk.new Slot.Note).faults → WhereRead (why_of (map string_bytes words.now)) (D.slots desk.old) (λ p c.
-        Appends (note_due result (why_due (map string_bytes words.now) p c).note) (D.slots desk.old Slot.Note) (D.slots desk.new Slot.Note)) }
+        AppendsPrefix (note_due result (why_due (map string_bytes words.now) p c).note)
+        (D.slots desk.old Slot.Note) (D.slots desk.new Slot.Note)) }
+    ensures noted_whole { result ≢ Outcome.OutOfMemory → ¬ IsRisen (D.slots desk.old Slot.Note).faults (D.slots desk.new Slot.Note).faults
+        → WhereRead (why_of (map string_bytes words.now)) (D.slots desk.old) (λ p c.
+        Appends (note_due result (why_due (map string_bytes words.now) p c).note)
+        (D.slots desk.old Slot.Note) (D.slots desk.new Slot.Note)) }
     // Done says that Note holds its text whole, whatever the counts did.
     ensures done_noted { result ≡ Outcome.Done → WhereRead (why_of (map string_bytes words.now)) (D.slots desk.old) (λ p c.
         Appends (why_due (map string_bytes words.now) p c).note (D.slots desk.old Slot.Note) (D.slots desk.new Slot.Note)) }
@@ -57,7 +62,8 @@ pub fn why<R: Wait, D: Desk>(rt: &R, alloc: Global, words: &[String], desk: &mut
         NotesPrefix (why_due (map string_bytes words.now) p c) (D.slots desk.old) (D.slots desk.new)) }
     // Nothing goes into Note once memory ran out. So if it holds something all the same and no slot failed, Report holds what
     // is due as a whole.
-    ensures noted_late { result ≡ Outcome.OutOfMemory → NoneRose (D.slots desk.old) (D.slots desk.new) → WhereRead (why_of (map string_bytes words.now)) (D.slots desk.old) (λ p c.
+    ensures noted_late { result ≡ Outcome.OutOfMemory → NoneRose (D.slots desk.old) (D.slots desk.new)
+        → WhereRead (why_of (map string_bytes words.now)) (D.slots desk.old) (λ p c.
         LeavesSlot (why_due (map string_bytes words.now) p c).report (D.slots desk.old Slot.Report) (D.slots desk.new Slot.Report)
         ⊎ Appends [] (D.slots desk.old Slot.Note) (D.slots desk.new Slot.Note)) }
     // A fault of Note is the outcome only if the work was done, and then Report is whole.
@@ -77,13 +83,17 @@ pub fn why<R: Wait, D: Desk>(rt: &R, alloc: Global, words: &[String], desk: &mut
 
     // Whether words are refused depends only on the words, unless there is no memory to say so.
     ensures usage { (f : UsageFault) → result ≡ Outcome.Usage f → why_of (map string_bytes words.now) ≡ Err f }
-    ensures usage_always { (f : UsageFault) → why_of (map string_bytes words.now) ≡ Err f → (result ≡ Outcome.Usage f) ⊎ (result ≡ Outcome.OutOfMemory) }
+    ensures usage_always { (f : UsageFault) → why_of (map string_bytes words.now) ≡ Err f
+        → (result ≡ Outcome.Usage f) ⊎ (result ≡ Outcome.OutOfMemory) }
     // A policy is refused only for its first fault, and accepted only if it has none, even if the desk shows only the policy.
-    ensures refused { (f : PolicyFault) → result ≡ Outcome.Policy f → PolicyCause (why_of (map string_bytes words.now)) (D.slots desk.old) (D.slots desk.new) f }
+    ensures refused { (f : PolicyFault) → result ≡ Outcome.Policy f
+        → PolicyCause (why_of (map string_bytes words.now)) (D.slots desk.old) (D.slots desk.new) f }
     ensures policy { ReachesCapture (why_of (map string_bytes words.now)) result (D.slots desk.old) }
     // Each fault comes only if the count of its own slot rose, and not before the slots that are due earlier were good.
-    ensures read_faults { (s : Slot) → result ≡ Outcome.ReadFault s → ReadFaultCause (why_of (map string_bytes words.now)) (D.slots desk.old) (D.slots desk.new) s }
-    ensures write_faults { (s : Slot) → result ≡ Outcome.WriteFault s → WriteFaultCause (why_of (map string_bytes words.now)) (D.slots desk.old) (D.slots desk.new) s }
+    ensures read_faults { (s : Slot) → result ≡ Outcome.ReadFault s
+        → ReadFaultCause (why_of (map string_bytes words.now)) (D.slots desk.old) (D.slots desk.new) s }
+    ensures write_faults { (s : Slot) → result ≡ Outcome.WriteFault s
+        → WriteFaultCause (why_of (map string_bytes words.now)) (D.slots desk.old) (D.slots desk.new) s }
 {
     let ending = run_words(rt, alloc, words, desk);
     put_ending(alloc, desk, ending)

@@ -92,7 +92,8 @@ fn attach_and_run<R: Wait, D: Desk>(
     ensures kind { IfOk result (λ ended. IfSome ended.fault (λ fault. ¬ IsOpeningFault fault)) }
     ensures drained { IfOk result (λ ended. IfNone ended.fault (IsReadWhole (D.slots desk.new Slot.Capture))) }
     ensures attached { IfOk result (λ ended. IsSome (D.slots desk.new Slot.Report).name) }
-    ensures report_name { ((D.slots desk.new Slot.Report).name ≡ None) ⊎ ((D.slots desk.new Slot.Report).name ≡ Some request.now.report.now) }
+    ensures report_name { ((D.slots desk.new Slot.Report).name ≡ None)
+        ⊎ ((D.slots desk.new Slot.Report).name ≡ Some request.now.report.now) }
     ensures capture_name { (D.slots desk.new Slot.Capture).name ≡ (D.slots desk.old Slot.Capture).name }
     ensures others { (s : Slot) → s ≢ Slot.Report → s ≢ Slot.Capture → D.slots desk.new s ≡ D.slots desk.old s }
 {
