@@ -1,5 +1,5 @@
 -- Chains are made one after another, each with its order and its functions.
-use Rattle.std.proofs.Common.{◌≡◌, ◌+◌, List, [], ◌∷◌, ◌++◌, length, map, refl, ap, subst, sym, ◌∙◌, arith}
+use Rattle.std.proofs.Common.{◌≡◌, ◌+◌, ℕ, List, [], ◌∷◌, ◌++◌, length, map, refl, ap, subst, sym, ◌∙◌, arith}
 use Rattle.std.specs.Prelude.{◌⊎◌, All, Option}
 use Rattle.std.specs.Vec.Iter.{into_iter_items, into_iter_len}
 use Rattle.std.specs.declared.vec.IntoIter.{IntoIter}
@@ -29,14 +29,11 @@ pub record IsUnderway (all : List ChainPolicy) (all_orders : List Order) (plain 
 pub record IsCounted {X Z : Type 0} (it : IntoIter X Z) : Type 0 where
   pub count : into_iter_len it ≡ length (into_iter_items it)
 
-pub begins : (chains : List ChainPolicy) (orders : List Order) (left : AllMade) → AllZip IsOrdered chains orders → left ≡ functions_made chains →
-    IsUnderway chains orders [] chains orders left
+pub begins : (chains : List ChainPolicy) (orders : List Order) (left : AllMade) → AllZip IsOrdered chains orders → left ≡ functions_made chains → IsUnderway chains orders [] chains orders left
 begins chains orders left ordered made = record { declared = refl; in_order = refl; ready = All-nil IsPlain; ordered = ordered; made = made }
 
-goes_on : (all : List ChainPolicy) (all_orders : List Order) (plain : List PlainChain) (chains : List ChainPolicy) (orders : List Order) (left : AllMade)
-    (chain : PlainChain) (made : List (Option Made)) →
-    IsUnderway all all_orders plain (chain.declared ∷ chains) (chain.order ∷ orders) (made ∷ left) → IsPlain chain →
-    IsUnderway all all_orders (plain ++ chain ∷ []) chains orders left
+goes_on : (all : List ChainPolicy) (all_orders : List Order) (plain : List PlainChain) (chains : List ChainPolicy) (orders : List Order) (left : AllMade) (chain : PlainChain) (made : List (Option Made)) →
+    IsUnderway all all_orders plain (chain.declared ∷ chains) (chain.order ∷ orders) (made ∷ left) → IsPlain chain → IsUnderway all all_orders (plain ++ chain ∷ []) chains orders left
 goes_on all all_orders plain chains orders left chain made under ready = record {
   declared = simp (map-append, append_assoc) under.declared;
   in_order = simp (map-append, append_assoc) under.in_order;
@@ -70,8 +67,7 @@ goes_on_with all all_orders plain chains orders left made more_chains more_order
     let here = next_underway all all_orders plain chains orders left chain.declared chain.order made more_chains more_orders more_left under next in
     goes_on all all_orders plain more_chains more_orders more_left chain made here ready
 
-pub counted_on : {X Z : Type 0} (old new : IntoIter X Z) (x : X) → IsCounted old → into_iter_items old ≡ x ∷ into_iter_items new →
-    into_iter_len new + 1 ≡ into_iter_len old → IsCounted new
+pub counted_on : {X Z : Type 0} (old new : IntoIter X Z) (x : X) → IsCounted old → into_iter_items old ≡ x ∷ into_iter_items new → into_iter_len new + 1 ≡ into_iter_len old → IsCounted new
 counted_on old new x counted items len = record { count = omega (arith, counted.count, ap length items, len) }
 
 -- with the shortest of the three all are at their ends

@@ -1,5 +1,5 @@
 -- A packet goes through one part of a chain, and then through the later ones.
-use Rattle.std.proofs.Common.{◌≡◌, ◌∙◌, ◌+◌, ℕ, List, [], ◌∷◌, ◌++◌, length, ap, refl, sym}
+use Rattle.std.proofs.Common.{◌≡◌, ◌∙◌, ◌+◌, ℕ, List, [], ◌∷◌, ◌++◌, length, ap, refl, sym, subst}
 use Rattle.std.proofs.lemmas.List.{append-nil}
 use Rattle.packet_fields.specs.Checksums.{sealed}
 use Rattle.graph_compile.specs.declared.graph.Stage.{Stage}
@@ -47,8 +47,7 @@ module _ {F : Type 0} (b : Behaviour F) (d : Deciding F) (time : ℕ) where
       on_out (Graph stages (traced b d time position functions frame).functions) later (traced b d time position functions frame).acts (position + length functions) frame
       (traced b d time position functions frame).fate out same
   goes_out position (Whole rewritten) later frame out same =
-      ap (λ frame2. then_long (Whole rewritten) (rewriting rewritten frame ∷ []) (long_traced b d time (position + 1) later frame2))
-      (let at : rewritten frame ≡ out = cc same in at)
+      ap (λ frame2. then_long (Whole rewritten) (rewriting rewritten frame ∷ []) (long_traced b d time (position + 1) later frame2)) (let at : rewritten frame ≡ out = cc same in at)
 
   pub stops : (position : ℕ) (piece : Piece F) (later : List (Piece F)) (frame : List ℕ) (place : ℕ) → (alone b d time position piece frame).fate ≡ Gone place →
       long_traced b d time position (piece ∷ later) frame ≡ before (alone b d time position piece frame) later
@@ -62,21 +61,14 @@ module _ {F : Type 0} (b : Behaviour F) (d : Deciding F) (time : ℕ) where
   on_nothing : (piece : Piece F) (acts : List Act) (position : ℕ) (frame : List ℕ) (fate : Fate) →
       long_on piece [] acts (sealed_on position [] frame) fate ≡ record { pieces = piece ∷ []; fate = sealed_by frame fate; acts = acts }
   unfolding long_traced
-  on_nothing piece acts position frame (Out left) = ap (λ acts. let t : LongTraced F = record { pieces = piece ∷ []; fate = Out (sealed frame left); acts = acts } in t)
-      (append-nil acts)
+  on_nothing piece acts position frame (Out left) = ap (λ acts. let t : LongTraced F = record { pieces = piece ∷ []; fate = Out (sealed frame left); acts = acts } in t) (append-nil acts)
   on_nothing piece acts position frame (Gone place) = refl
 
-  pub through_functions : (position : ℕ) (stages : List Stage) (functions : List F) (frame : List ℕ) →
-      ◌≡◌ {A = LongTraced F} (alone b d time position (Graph stages functions) frame)
-      (record {
-        pieces = Graph stages (traced b d time position functions frame).functions ∷ [];
-        fate = sealed_by frame (traced b d time position functions frame).fate;
-        acts = (traced b d time position functions frame).acts;
-      })
+  pub through_functions : (position : ℕ) (stages : List Stage) (functions : List F) (frame : List ℕ) → ◌≡◌ {A = LongTraced F} (alone b d time position (Graph stages functions) frame)
+      (record { pieces = Graph stages (traced b d time position functions frame).functions ∷ []; fate = sealed_by frame (traced b d time position functions frame).fate; acts = (traced b d time position functions frame).acts })
   unfolding long_traced
   through_functions position stages functions frame =
-      on_nothing (Graph stages (traced b d time position functions frame).functions) (traced b d time position functions frame).acts (position + length functions) frame
-      (traced b d time position functions frame).fate
+      on_nothing (Graph stages (traced b d time position functions frame).functions) (traced b d time position functions frame).acts (position + length functions) frame (traced b d time position functions frame).fate
 
   pub through_whole : (position : ℕ) (rewritten : List ℕ → List ℕ) (frame : List ℕ) → ◌≡◌ {A = LongTraced F} (alone b d time position (Whole rewritten) frame)
       (record { pieces = Whole rewritten ∷ []; fate = Out (rewritten frame); acts = rewriting rewritten frame ∷ [] })

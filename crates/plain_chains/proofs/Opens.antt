@@ -14,7 +14,7 @@ use Rattle.policy_check.specs.declared.fault.Order.{Order}
 use Rattle.policy_judge.specs.Orders.{IsOrdered}
 use Rattle.policy_chains.specs.Services.{Chains, names_by, pieces_by, pieces_at, service_among}
 use Rattle.policy_chains.specs.declared.named.NamedFunction.{NamedFunction}
-use Rattle.plain_chains.specs.Plain.{IsPlain, chains_of}
+use Rattle.plain_chains.specs.Plain.{IsPlain, chains_of, pieces_in}
 use Rattle.plain_chains.specs.declared.chain.PlainChain.{PlainChain}
 
 pub few_places : (chain : ChainPolicy) (order : Order) → IsOrdered chain order → length order.positions ≤ 64
@@ -32,31 +32,23 @@ names_here : (chains : List PlainChain) → (chains_of chains).names ≡ names_b
 names_here [] = refl
 names_here (c ∷ chains) = ap (λ names. names_at c.declared.functions c.order.positions ∷ names) (names_here chains)
 
-pieces_here : (chains : List PlainChain) → All IsPlain chains →
-    (chains_of chains).pieces ≡ pieces_by (map (λ c. c.declared) chains) (map (λ c. c.order) chains) (map no_graph (map (λ c. c.declared) chains))
+pieces_here : (chains : List PlainChain) → All IsPlain chains → (chains_of chains).pieces ≡ pieces_by (map (λ c. c.declared) chains) (map (λ c. c.order) chains) (map no_graph (map (λ c. c.declared) chains))
 pieces_here [] ready = refl
 pieces_here (c ∷ chains) ready =
     ap (λ (pieces : List (Piece NamedFunction)). pieces ∷ (chains_of chains).pieces) (All-head IsPlain c chains ready).pieces
     ∙ ap (λ (pieces : List (List (Piece NamedFunction))). pieces_at c.declared.functions c.order.positions ∷ pieces) (pieces_here chains (All-tail IsPlain c chains ready))
 
-own : (chains : List PlainChain) → All IsPlain chains → chains_of chains ≡ service_among (map (λ c. c.declared) chains) (map (λ c. c.order) chains)
-    (map no_graph (map (λ c. c.declared) chains))
+own : (chains : List PlainChain) → All IsPlain chains → chains_of chains ≡ service_among (map (λ c. c.declared) chains) (map (λ c. c.order) chains) (map no_graph (map (λ c. c.declared) chains))
 own chains ready =
     ap (λ names. let s : Chains = record { declared = map (λ c. c.declared) chains; names = names; pieces = (chains_of chains).pieces } in s) (names_here chains)
-    ∙ ap (λ pieces. let s : Chains = record {
-      declared = map (λ c. c.declared) chains;
-      names = names_by (map (λ c. c.declared) chains) (map (λ c. c.order) chains);
-      pieces = pieces;
-    } in s) (pieces_here chains ready)
+    ∙ ap (λ pieces. let s : Chains = record { declared = map (λ c. c.declared) chains; names = names_by (map (λ c. c.declared) chains) (map (λ c. c.order) chains); pieces = pieces } in s) (pieces_here chains ready)
 
-pub runs : (chains : List PlainChain) (declared : List ChainPolicy) (orders : List Order) → map (λ c. c.declared) chains ≡ declared →
-    map (λ c. c.order) chains ≡ orders → All IsPlain chains →
+pub runs : (chains : List PlainChain) (declared : List ChainPolicy) (orders : List Order) → map (λ c. c.declared) chains ≡ declared → map (λ c. c.order) chains ≡ orders → All IsPlain chains →
     chains_of chains ≡ service_among declared orders (map no_graph declared)
 runs chains declared orders same in_order ready =
     own chains ready
     ∙ ap (λ (d : List ChainPolicy). service_among d (map (λ c. c.order) chains) (map no_graph d)) same
     ∙ ap (λ (o : List Order). service_among declared o (map no_graph declared)) in_order
 
-pub classes_fit : (classes : List Match) (chains : List PlainChain) (declared : List ChainPolicy) → classes ≡ map (λ c. c.fit) declared →
-    map (λ c. c.declared) chains ≡ declared → classes ≡ map (λ c. c.declared.fit) chains
+pub classes_fit : (classes : List Match) (chains : List PlainChain) (declared : List ChainPolicy) → classes ≡ map (λ c. c.fit) declared → map (λ c. c.declared) chains ≡ declared → classes ≡ map (λ c. c.declared.fit) chains
 classes_fit classes chains declared told same = told ∙ ap (λ (cs : List ChainPolicy). map (λ c. c.fit) cs) (sym same) ∙ fits_declared chains

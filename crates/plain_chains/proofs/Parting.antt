@@ -4,7 +4,7 @@ use Rattle.action_profile.specs.declared.rights.Profile.{Profile}
 use Rattle.chain_walk.specs.declared.walk.Fate.{Fate}
 use Rattle.chain_walk.specs.declared.walk.Fate.TheVariants.{Out}
 use Rattle.graph_compile.specs.Stages.{graph_of}
-use Rattle.piece_walk.specs.Pieces.{Graph, Whole}
+use Rattle.piece_walk.specs.Pieces.{Piece, Graph, Whole}
 use Rattle.piece_walk.specs.Rejoining.{sealed_by}
 use Rattle.traced_walk.specs.Traced.{LongTraced, rewriting, traced}
 use Rattle.traced_run.specs.Telling.{with_acts}
@@ -13,15 +13,13 @@ use Rattle.policy_chains.specs.NamedFunctionLaws.{named_keeps}
 use Rattle.policy_chains.specs.NamedFunctions.{named_behaviour, named_decides}
 use Rattle.policy_chains.specs.Services.{compiled, stages_of}
 use Rattle.policy_chains.specs.declared.named.NamedFunction.{NamedFunction}
-use Rattle.plain_chains.specs.Leading.{IsLed}
+use Rattle.plain_chains.specs.Leading.{IsLed, alone}
 use Rattle.plain_chains.proofs.OnePart.{through_functions, through_whole}
 use Rattle.plain_chains.proofs.Staying.{profiles_stay}
 
 -- functions in a row are compiled to the same stages after a packet
-same_stages : (time position : ℕ) (functions : List NamedFunction) (frame : List ℕ) →
-    stages_of (traced named_behaviour named_decides time position functions frame).functions ≡ stages_of functions
-same_stages time position functions frame = ap (λ (profiles : List Profile). (graph_of profiles).stages)
-    (profiles_stay named_behaviour named_decides time position functions frame named_keeps)
+same_stages : (time position : ℕ) (functions : List NamedFunction) (frame : List ℕ) → stages_of (traced named_behaviour named_decides time position functions frame).functions ≡ stages_of functions
+same_stages time position functions frame = ap (λ (profiles : List Profile). (graph_of profiles).stages) (profiles_stay named_behaviour named_decides time position functions frame named_keeps)
 
 pub functions_lead : (time position : ℕ) (frame : List ℕ) (old new : List NamedFunction) (fate : Fate) (start end : Trace) →
     new ≡ (traced named_behaviour named_decides time position old frame).functions →

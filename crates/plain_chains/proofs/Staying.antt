@@ -16,8 +16,7 @@ module _ {F : Type 0} (b : Behaviour F) (d : Deciding F) (time : ℕ) where
   step_stays true gone pass position f later t h = refl
   step_stays false gone pass position f later t h = ap (λ profiles. b.profile f ∷ profiles) h
 
-  pub profiles_stay : (position : ℕ) (functions : List F) (frame : List ℕ) → KeepsProfile b →
-      map b.profile (traced b d time position functions frame).functions ≡ map b.profile functions
+  pub profiles_stay : (position : ℕ) (functions : List F) (frame : List ℕ) → KeepsProfile b → map b.profile (traced b d time position functions frame).functions ≡ map b.profile functions
   unfolding traced
   profiles_stay position [] frame keeps = refl
   profiles_stay position (f ∷ later) frame keeps =

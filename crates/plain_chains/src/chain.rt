@@ -72,8 +72,7 @@ pub(crate) fn lead_chain<R: Wait>(
     ensures order { chain.new.order ≡ chain.old.order }
     ensures fate { IfOk result (λ fate. fate ≡ (long_traced named_behaviour named_decides time 1 (pieces_in chain.old) frame).fate) }
     ensures pieces { OnOk result (pieces_in chain.new ≡ (long named_behaviour time 1 (pieces_in chain.old) frame).pieces) }
-    ensures acts { OnOk result (trace.new
-        ≡ with_acts trace.old (long_traced named_behaviour named_decides time 1 (pieces_in chain.old) frame).acts) }
+    ensures acts { OnOk result (trace.new ≡ with_acts trace.old (long_traced named_behaviour named_decides time 1 (pieces_in chain.old) frame).acts) }
 {
     the_trace_is_the_walk::<NamedFunction>();
     pieces_keep_their_kind::<NamedFunction>();

@@ -12,8 +12,7 @@ use traced_walk::the_ways_are_the_walk;
 /// A law: each packet ends where a run of the policy lets it end.
 #[tactic(auto, unfolding(policy_chains::specs::Fates::fates_of))]
 pub fn packets_end_as_with_run()
-    ensures { (chains : Chains) → (unit : TimeUnit) → (records : List PcapRecord) →
-        map (λ way. way.fate) (ways_of chains unit records) ≡ fates_of chains unit records }
+    ensures { (chains : Chains) → (unit : TimeUnit) → (records : List PcapRecord) → map (λ way. way.fate) (ways_of chains unit records) ≡ fates_of chains unit records }
 {
     the_ways_are_the_walk::<NamedFunction>();
 }

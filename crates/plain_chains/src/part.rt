@@ -33,8 +33,7 @@ pub(crate) fn lead_part<R: Wait>(
     trace: &mut Trace,
 ) -> Result<(ChainPart, Fate), AllocError>
     requires { position + count_of (part_of part) ≤ 65 }
-    ensures { IfOk result (λ led. IsLed
-        named_behaviour named_decides time position frame (part_of part) (part_of led.0) led.1 trace.old trace.new) }
+    ensures { IfOk result (λ led. IsLed named_behaviour named_decides time position frame (part_of part) (part_of led.0) led.1 trace.old trace.new) }
 {
     match part {
         ChainPart::Functions(functions) => {
@@ -65,12 +64,9 @@ fn lead_functions<R: Wait>(
     trace: &mut Trace,
 ) -> Result<(Vec<NamedFunction>, Fate), AllocError>
     requires { position + length functions.items ≤ 65 }
-    ensures functions { IfOk result (λ led. led.0.items
-        ≡ (traced named_behaviour named_decides time position functions.items frame).functions) }
-    ensures fate { IfOk result (λ led. led.1
-        ≡ sealed_by frame (traced named_behaviour named_decides time position functions.items frame).fate) }
-    ensures acts { OnOk result (trace.new
-        ≡ with_acts trace.old (traced named_behaviour named_decides time position functions.items frame).acts) }
+    ensures functions { IfOk result (λ led. led.0.items ≡ (traced named_behaviour named_decides time position functions.items frame).functions) }
+    ensures fate { IfOk result (λ led. led.1 ≡ sealed_by frame (traced named_behaviour named_decides time position functions.items frame).fate) }
+    ensures acts { OnOk result (trace.new ≡ with_acts trace.old (traced named_behaviour named_decides time position functions.items frame).acts) }
 {
     let mut functions = functions;
     let entered = copy(alloc, &frame)?;
@@ -116,8 +112,7 @@ fn add_rewritten(
     after: &Frame,
     trace: &mut Trace,
 ) -> Result<(), AllocError>
-    ensures { OnOk result (trace.new ≡ with_act trace.old
-        (record { lines = []; dropped = false; before = before.now; after = after.now })) }
+    ensures { OnOk result (trace.new ≡ with_act trace.old (record { lines = []; dropped = false; before = before.now; after = after.now })) }
 {
     let lines = Items::new(Vec::new(alloc));
     trace.add_passed(alloc, lines, before, after)

@@ -27,10 +27,8 @@ pub(crate) fn walk_parts<R: Wait>(
 ) -> Result<Fate, AllocError>
     requires { parts_count parts.old ≤ 64 }
     ensures fate { IfOk result (λ fate. fate ≡ (long_traced named_behaviour named_decides time 1 (parts_of parts.old) frame).fate) }
-    ensures pieces { OnOk result (parts_of parts.new
-        ≡ (long_traced named_behaviour named_decides time 1 (parts_of parts.old) frame).pieces) }
-    ensures acts { OnOk result (trace.new
-        ≡ with_acts trace.old (long_traced named_behaviour named_decides time 1 (parts_of parts.old) frame).acts) }
+    ensures pieces { OnOk result (parts_of parts.new ≡ (long_traced named_behaviour named_decides time 1 (parts_of parts.old) frame).pieces) }
+    ensures acts { OnOk result (trace.new ≡ with_acts trace.old (long_traced named_behaviour named_decides time 1 (parts_of parts.old) frame).acts) }
 {
     let mut frame = frame;
     let mut position = 1;

@@ -14,6 +14,5 @@ new-requires-3 g c =
     let count : parts_count c.walk_parts.new.parts ≡ parts_count begun =
     ap (sum_by count_of) (c.in_ok-fate.ensures.pieces ∙ c.the_trace_is_the_walk.ensures.pieces named_behaviour named_decides c.args.time 1 (parts_of begun) c.args.frame)
     ∙ count_stays named_behaviour c.args.time (parts_of begun) c.args.frame c.pieces_keep_their_kind.ensures.count in
-    let whole = overwritten c.walk_parts.new.parts c.into_vec-parts.result.items c.into_vec-parts.result.len c.into_vec-parts.result.ok.0
-    (c.walk_parts.auto.parts ∙ ap length same) in
+    let whole = overwritten c.walk_parts.new.parts c.into_vec-parts.result.items c.into_vec-parts.result.len c.into_vec-parts.result.ok.0 (c.walk_parts.auto.parts ∙ ap length same) in
     subst (λ (l : List ChainPart). parts_count l ≤ 64) (sym whole) (subst (λ (n : ℕ). n ≤ 64) (sym count) few)

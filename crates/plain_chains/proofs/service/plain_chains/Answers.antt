@@ -1,5 +1,5 @@
-use Rattle.std.proofs.Common.{◌≡◌, ◌∷◌, ◌++◌, [], List, length, inl, inr, sym, subst, arith, rules}
-use Rattle.std.specs.Prelude.{◌⊎◌}
+use Rattle.std.proofs.Common.{◌≡◌, ◌∷◌, ◌++◌, [], List, length, map, inl, inr, ap, ◌∙◌, sym, subst, arith, rules}
+use Rattle.std.specs.Prelude.{◌⊎◌, All}
 use Rattle.std.specs.Vec.Iter.{into_iter_items}
 use Rattle.std.specs.Iterator.Adapters.{zip_first, zip_second}
 use Rattle.plain_chains.specs.declared.chain.PlainChain.{PlainChain}
