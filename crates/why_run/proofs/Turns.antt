@@ -24,7 +24,7 @@ use Rattle.plain_chains.specs.PacketWays.{ways_of}
 use Rattle.plain_chains.specs.Plain.{chains_of, way_next}
 use Rattle.plain_chains.specs.declared.chain.PlainChain.{PlainChain}
 use Rattle.traced_walk.specs.Ways.{Way, ways}
-use Rattle.why_report.specs.Report.{drop_line, drop_lines, is_gone}
+use Rattle.why_report.specs.Report.{OrderedChain, drop_line, drop_lines, is_gone}
 use Rattle.why_run.specs.Running.{Goes, ordered_of, ways_given}
 use Rattle.why_run.specs.Telling.{EndsSo, GivenBreaks, IsTold, TellBreaks, TellsAll, TellsGiven, stop_of}
 use Rattle.why_run.specs.declared.telling.Telling.{Telling}
@@ -42,6 +42,14 @@ for_each (Some b) P f = f b
 pub broken_goes : (out report : List ℕ) (old new : Slot → SlotView) (e : RunFault) → Breaks out report old new e → Goes old new
 broken_goes out report old new e b = record { report_name = b.prefixes.in_report.appended.same_name; later = b.prefixes.later }
 
+-- at most as many were dropped as were read, by what is told
+pub within_by : (chains : List OrderedChain) (asked : Option ℕ) (done : List Way) (t : Telling) → IsTold chains asked done t → t.account.totals.dropped ≤ t.account.totals.records
+within_by chains asked done t told =
+    let read : t.account.totals.records ≡ length done = ap (λ a. a.totals.records) told.account in
+    let gone : t.account.totals.dropped ≡ count_by (λ w. is_gone w.fate) done = ap (λ a. a.totals.dropped) told.account in
+    let most = count_by-le-length (λ (w : Way). is_gone w.fate) done in
+    omega arith
+
 -- what a turn knows about what is told, the source and the slots
 pub record IsAt {X B S : Type 0} (left : S → SlotView → Option (Stream X B)) (packets : S → ℕ) (is_open : S → Bool) (first t : Telling) (unit : TimeUnit) (held held' : List ℕ) (start source : S) (old now : Slot → SlotView) : Type 0 where
   pub given : List (Given X B)
@@ -51,7 +59,7 @@ pub record IsAt {X B S : Type 0} (left : S → SlotView → Option (Stream X B))
   pub gathered : Gathers (drop_lines (ordered_of first.service) 1 done) held held' old now
   pub whole : left start (old slots.Capture) ≡ option_map (with_all given) (left source (now slots.Capture))
   pub at : packets source ≡ length done
-  pub open : is_open source ≡ true
+  pub still_open : is_open source ≡ true
   pub capture_name : (now slots.Capture).name ≡ (old slots.Capture).name
   pub others : (s : Slot) → s ≢ slots.Report → s ≢ slots.Capture → now s ≡ old s
 
@@ -67,7 +75,7 @@ module _ {X B S : Type 0} (left : S → SlotView → Option (Stream X B)) (packe
     gathered = gathers_none held old;
     whole = with_none (left source (old slots.Capture));
     at = fresh;
-    open = opened;
+    still_open = opened;
     capture_name = refl;
     others = λ s r c. refl;
   }
@@ -77,11 +85,7 @@ module _ {X B S : Type 0} (left : S → SlotView → Option (Stream X B)) (packe
   records_told first t held held' start source old now at = ap (λ a. a.totals.records) at.told.account ∙ sym at.at
 
   pub within_told : (first t : Telling) (held held' : List ℕ) (start source : S) (old now : Slot → SlotView) → IsAt left packets is_open first t unit held held' start source old now → t.account.totals.dropped ≤ t.account.totals.records
-  within_told first t held held' start source old now at =
-      let read : t.account.totals.records ≡ length at.done = ap (λ a. a.totals.records) at.told.account in
-      let gone : t.account.totals.dropped ≡ count_by (λ w. is_gone w.fate) at.done = ap (λ a. a.totals.dropped) at.told.account in
-      let most = count_by-le-length (λ w. is_gone w.fate) at.done in
-      omega arith
+  within_told first t held held' start source old now at = within_by (ordered_of first.service) first.asked at.done t at.told
 
   -- more was given, and told
   pub at_goes_on : (taken : S → ℕ) (first t t' : Telling) (held held' held'' : List ℕ) (start source source' : S) (x : Given X B) (old mid now new : Slot → SlotView) →
@@ -106,7 +110,7 @@ module _ {X B S : Type 0} (left : S → SlotView → Option (Stream X B)) (packe
             (gathers_beside (drop_lines chains 1 at.done) held held' old mid now at.gathered (puts_read mid now later around)) (tells.gathers chains first.asked at.done at.told));
         whole = at.whole ∙ ap (option_map (with_all at.given)) (gives.whole ∙ ap (λ v. option_map (with_given (Packet r y)) (left source' v)) (sym capture)) ∙ with_more at.given (Packet r y) (left source' (new slots.Capture));
         at = gives.counted ∙ ap (λ n. n + 1) at.at ∙ sym (length_push at.done way);
-        open = opened;
+        still_open = opened;
         capture_name = ap (λ v. v.name) capture ∙ name ∙ at.capture_name;
         others = λ s r c. beyond s r ∙ around s c ∙ at.others s r c;
       }
@@ -124,7 +128,7 @@ module _ {X B S : Type 0} (left : S → SlotView → Option (Stream X B)) (packe
             (gathers_beside (drop_lines (ordered_of first.service) 1 at.done) held held' old mid now at.gathered (puts_read mid now later around)));
         whole = at.whole ∙ ap (option_map (with_all at.given)) (gives.whole ∙ ap (λ v. option_map (with_given (Block b)) (left source' v)) (sym capture)) ∙ with_more at.given (Block b) (left source' (new slots.Capture));
         at = gives.counted ∙ plus_none (packets source) ∙ at.at;
-        open = opened;
+        still_open = opened;
         capture_name = ap (λ v. v.name) capture ∙ name ∙ at.capture_name;
         others = λ s r c. beyond s r ∙ around s c ∙ at.others s r c;
       }
@@ -150,11 +154,11 @@ module _ {X B S : Type 0} (left : S → SlotView → Option (Stream X B)) (packe
     gathered = gathers_beside (drop_lines (ordered_of first.service) 1 at.done) held held' old mid now at.gathered reads;
     kind = kind;
     whole = if_some (left start (old slots.Capture)) _ _ (λ (s : Stream X B) is. record {
-        ways = ap (λ (z : Stream X B). ways_given first.service unit z) is
-            ∙ ap (ways_of (chains_of first.service) unit) (sym (append-nil (records_in at.given)))
-            ∙ at.goes_on [] ∙ append-nil at.done;
-        fault_is = sym (ap (λ (z : Stream X B). z.fault) is);
-      }) (settled (left start (old slots.Capture)) (left source (mid slots.Capture)) at.given fault at.whole empty);
+      ways = ap (λ (z : Stream X B). ways_given first.service unit z) is
+          ∙ ap (ways_of (chains_of first.service) unit) (sym (append-nil (records_in at.given)))
+          ∙ at.goes_on [] ∙ append-nil at.done;
+      fault_is = sym (ap (λ (z : Stream X B). z.fault) is);
+    }) (settled (left start (old slots.Capture)) (left source (mid slots.Capture)) at.given fault at.whole empty);
   }
 
   pub at_end : (first t : Telling) (held held' : List ℕ) (start source : S) (old mid now : Slot → SlotView) → IsAt left packets is_open first t unit held held' start source old mid →
@@ -188,6 +192,7 @@ module _ {X B S : Type 0} (left : S → SlotView → Option (Stream X B)) (packe
     where
       Prefix : Stream X B → Type 0
       Prefix s = PutsPrefixes [] (held ++ drop_lines (ordered_of first.service) 1 (ways_given first.service unit s)) old new
+
       go : (o : Option (Stream X B)) → left start (old slots.Capture) ≡ option_map (with_all given) o → IfSome (left start (old slots.Capture)) Prefix
       go None is = subst (λ o. IfSome o Prefix) (sym is) tt
       go (Some left_over) is = subst (λ o. IfSome o Prefix) (sym is)
@@ -210,13 +215,13 @@ module _ {X B S : Type 0} (left : S → SlotView → Option (Stream X B)) (packe
       at_break first start (at.given ++ Packet r y ∷ []) (at.done ++ way ∷ []) (ways_behind unit r t.service) (left source' (now slots.Capture)) held old new e
       (at.whole ∙ ap (option_map (with_all at.given)) gives.whole ∙ with_more at.given (Packet r y) (left source' (now slots.Capture)))
       (λ rs.
-          ap (λ l. ways_of (chains_of first.service) unit (l ++ rs)) (records-append at.given (Packet r y ∷ []))
-          ∙ ap (ways_of (chains_of first.service) unit) (append_assoc (records_in at.given) (r ∷ []) rs)
-          ∙ at.goes_on (r ∷ rs) ∙ ap (λ l. at.done ++ l) (ways_first unit r rs t.service)
-          ∙ sym (append_assoc at.done (way ∷ []) (ways_behind unit r t.service rs)))
+      ap (λ l. ways_of (chains_of first.service) unit (l ++ rs)) (records-append at.given (Packet r y ∷ []))
+      ∙ ap (ways_of (chains_of first.service) unit) (append_assoc (records_in at.given) (r ∷ []) rs)
+      ∙ at.goes_on (r ∷ rs) ∙ ap (λ l. at.done ++ l) (ways_first unit r rs t.service)
+      ∙ sym (append_assoc at.done (way ∷ []) (ways_behind unit r t.service rs)))
       (subst (λ l. Breaks [] (held ++ l) old new e) (sym (lines_push chains at.done way))
-          (gather_breaks (drop_lines chains 1 at.done) (drop_line chains (length at.done + 1) way.class way) held held' old now new e
-          (gathers_beside (drop_lines chains 1 at.done) held held' old mid now at.gathered (puts_read mid now later around)) (broken chains first.asked at.done at.told)))
+      (gather_breaks (drop_lines chains 1 at.done) (drop_line chains (length at.done + 1) way.class way) held held' old now new e
+      (gathers_beside (drop_lines chains 1 at.done) held held' old mid now at.gathered (puts_read mid now later around)) (broken chains first.asked at.done at.told)))
   at_given_break taken first t held held' start source source' (Block b) e old mid now new at later around gives broken = absurd broken
 
   stopped : (first t : Telling) (held held' : List ℕ) (start source : S) (e : RunFault) (old mid now : Slot → SlotView) → IsAt left packets is_open first t unit held held' start source old mid →

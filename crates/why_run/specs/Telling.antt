@@ -71,9 +71,12 @@ AddsLine chains accounts number led acts old new =
     (ways : List Way) → (way : Way) → (keeps : Bool) → IsWay keeps led acts way → accounts ≡ chain_accounts 0 (ordered_of chains) ways → new ≡ old ++ drop_line (ordered_of chains) number way.class way
 
 -- the trace of a packet that went so, with its first line
-abbrev pub TracesWay : List PlainChain → List ChainAccount → ℕ → Led → List TracedAct → List ℕ → Type 0
-TracesWay chains accounts number led acts text =
-    (ways : List Way) → (way : Way) → IsWay true led acts way → accounts ≡ chain_accounts 0 (ordered_of chains) ways → text ≡ record_line number ++ way_text (ordered_of chains) way
+abbrev pub TracesWay : List PlainChain → ℕ → Led → List TracedAct → List ℕ → Type 0
+TracesWay chains number led acts text = (way : Way) → IsWay true led acts way → text ≡ record_line number ++ way_text (ordered_of chains) way
+
+-- behind a text stands what follows the first line
+abbrev pub AddsTrace : List PlainChain → Led → List TracedAct → List ℕ → List ℕ → Type 0
+AddsTrace chains led acts old new = (way : Way) → IsWay true led acts way → new ≡ old ++ way_text (ordered_of chains) way
 
 -- the trace of the packet is kept, if it was asked for
 pub record KeepsTrace (keeps : Bool) (led : Led) (acts : List TracedAct) (old new : Telling) : Type 0 where

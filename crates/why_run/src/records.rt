@@ -1,5 +1,5 @@
 //! Takes the items of a capture, and tells each packet.
-ghost use Rattle.std.specs.Prelude.{◌≡◌, ◌≢◌, ◌≤◌, ◌<◌, ◌^◌, [], true, IfErr, IfNone, IfOk, IsSome, OnOk};
+ghost use Rattle.std.specs.Prelude.{◌≡◌, ◌≢◌, ◌≤◌, ◌<◌, [], true, IfErr, IfNone, IfOk, IsSome, OnOk};
 ghost use Rattle.nfp_outside.specs.declared.slot.Slot.{Slot};
 ghost use Rattle.capture_items.specs.Slots.{Breaks, Gathers};
 ghost use Rattle.capture_items.specs.Streams.{HasNumber};
@@ -96,7 +96,7 @@ fn tell_record<R: Wait, D: Desk>(
     packet: &PcapRecord,
 ) -> Result<(), RunFault>
     requires report { IsSome (D.slots desk.old Slot.Report).name }
-    requires room { telling.old.account.totals.records < 2 ^ 32 - 1 }
+    requires room { telling.old.account.totals.records < 4294967295 }
     requires within { telling.old.account.totals.dropped ≤ telling.old.account.totals.records }
     ensures ok { OnOk result (TellsRecord unit packet.now telling.old telling.new text.old.items text.new.items (D.slots desk.old) (D.slots desk.new)) }
     ensures err { IfErr result (RecordBreaks unit packet.now telling.old text.old.items (D.slots desk.old) (D.slots desk.new)) }

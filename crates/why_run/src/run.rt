@@ -55,7 +55,13 @@ pub fn run_why<R: Wait, D: Desk, X: Drop, B: Drop, S: Source<X, B> + Drop>(
     text.extend_from_slice(TITLE)?;
     let mut telling = begin(alloc, service, asked)?;
     let fault = tell_records(rt, alloc, desk, &mut telling, &mut text, unit, source)?;
-    push_summary(alloc, &mut text, telling.service.chains(), &telling.account, fault)?;
+    push_summary(
+        alloc,
+        &mut text,
+        telling.service.chains(),
+        &telling.account,
+        fault,
+    )?;
     put_text(desk, &text)?;
     Ok(WhyEnded {
         totals: telling.account.totals,
@@ -65,11 +71,7 @@ pub fn run_why<R: Wait, D: Desk, X: Drop, B: Drop, S: Source<X, B> + Drop>(
 }
 
 // What is kept before the first packet.
-fn begin(
-    alloc: Global,
-    service: PlainService,
-    asked: Option<u32>,
-) -> Result<Telling, AllocError>
+fn begin(alloc: Global, service: PlainService, asked: Option<u32>) -> Result<Telling, AllocError>
     requires asked { IfSome asked (λ n. 1 ≤ n) }
     ensures { IfOk result (λ t. Begins service asked t) }
 {

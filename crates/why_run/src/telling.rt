@@ -1,7 +1,7 @@
 //! What is kept of the packets so far, and one packet on its way through the chains.
-ghost use Rattle.std.specs.Prelude.{◌≡◌, ◌<◌, ◌≤◌, ◌+◌, ◌^◌, IfOk, OnOk};
+ghost use Rattle.std.specs.Prelude.{◌≡◌, ◌<◌, ◌≤◌, ◌+◌, IfOk, OnOk};
 ghost use Rattle.plain_chains.specs.Plain.{Leads, way_next};
-ghost use Rattle.why_run.specs.Telling.{AddsLed, AddsLine, AddsWay, KeepsTrace, TellsLed, TellsWay, TracesWay, is_asked};
+ghost use Rattle.why_run.specs.Telling.{AddsLed, AddsLine, AddsTrace, AddsWay, KeepsTrace, TellsLed, TellsWay, TracesWay, is_asked};
 
 use capture_bytes::{PcapRecord, Unit};
 use item_list::Items;
@@ -32,7 +32,7 @@ pub fn tell_packet<R: Wait>(
     unit: Unit,
     packet: &PcapRecord,
 ) -> Result<(), AllocError>
-    requires room { telling.old.account.totals.records < 2 ^ 32 - 1 }
+    requires room { telling.old.account.totals.records < 4294967295 }
     requires within { telling.old.account.totals.dropped ≤ telling.old.account.totals.records }
     ensures led { OnOk result (Leads unit packet.now telling.old.service telling.new.service) }
     ensures told { OnOk result (TellsWay (way_next telling.old.service unit packet.now) telling.old telling.new) }
@@ -63,7 +63,7 @@ fn tell_led(
     led: &Led,
     acts: &[TracedAct],
 ) -> Result<(), AllocError>
-    requires room { telling.old.account.totals.records < 2 ^ 32 - 1 }
+    requires room { telling.old.account.totals.records < 4294967295 }
     requires within { telling.old.account.totals.dropped ≤ telling.old.account.totals.records }
     requires asked { keeps ≡ is_asked telling.old.asked (telling.old.account.totals.records + 1) }
     ensures service { OnOk result (telling.new.service ≡ telling.old.service) }
@@ -72,7 +72,15 @@ fn tell_led(
 {
     let number = telling.account.totals.records + 1;
     let accounts = telling.account.chains.as_slice();
-    push_line(alloc, text, telling.service.chains(), accounts, number, led, acts)?;
+    push_line(
+        alloc,
+        text,
+        telling.service.chains(),
+        accounts,
+        number,
+        led,
+        acts,
+    )?;
     keep_trace(alloc, telling, keeps, led, acts)?;
     telling.account.note(led.class, &led.fate, acts);
     Ok(())
@@ -98,7 +106,15 @@ fn push_line(
     };
     match accounts.get(class as usize) {
         Some(account) => {
-            push_drop(alloc, text, number, &chain.declared.name, account, acts, &led.fate)
+            push_drop(
+                alloc,
+                text,
+                number,
+                &chain.declared.name,
+                account,
+                acts,
+                &led.fate,
+            )
         }
         None => Ok(()),
     }
@@ -112,15 +128,14 @@ fn keep_trace(
     led: &Led,
     acts: &[TracedAct],
 ) -> Result<(), AllocError>
-    requires room { telling.old.account.totals.records < 2 ^ 32 - 1 }
+    requires room { telling.old.account.totals.records < 4294967295 }
     ensures { OnOk result (KeepsTrace keeps led.now acts.now telling.old telling.new) }
 {
     if !keeps {
         return Ok(());
     }
     let number = telling.account.totals.records + 1;
-    let accounts = telling.account.chains.as_slice();
-    let trace = trace_of(alloc, telling.service.chains(), accounts, number, led, acts)?;
+    let trace = trace_of(alloc, telling.service.chains(), number, led, acts)?;
     telling.trace = Some(trace);
     Ok(())
 }
@@ -129,12 +144,33 @@ fn keep_trace(
 fn trace_of(
     alloc: Global,
     chains: &[PlainChain],
-    accounts: &[ChainAccount],
     number: u64,
     led: &Led,
     acts: &[TracedAct],
 ) -> Result<Items<u8>, AllocError>
-    ensures { IfOk result (TracesWay chains.now accounts.now number led.now acts.now) }
+    ensures { IfOk result (TracesWay chains.now number led.now acts.now) }
 {
-    Err(AllocError)
+    let mut text = Vec::new(alloc);
+    push_record_line(alloc, &mut text, number)?;
+    push_way(alloc, &mut text, chains, led, acts)?;
+    Ok(Items::new(text))
+}
+
+// Adds the way of a packet, behind the first line of its trace.
+fn push_way(
+    alloc: Global,
+    text: &mut Vec<u8>,
+    chains: &[PlainChain],
+    led: &Led,
+    acts: &[TracedAct],
+) -> Result<(), AllocError>
+    ensures { OnOk result (AddsTrace chains.now led.now acts.now text.old.items text.new.items) }
+{
+    let Some(class) = led.class else {
+        return push_untaken_trace(text);
+    };
+    match chains.get(class as usize) {
+        Some(chain) => push_trace(alloc, text, &chain.declared, &chain.order, acts, &led.fate),
+        None => Ok(()),
+    }
 }
