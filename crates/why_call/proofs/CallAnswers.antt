@@ -58,12 +58,14 @@ seen_where_final outcome line old new result (inl (is, a)) final = is
 seen_where_final outcome line old new result (inr (inl (is, a))) final = absurd (subst IsFinal is final)
 seen_where_final outcome line old new result (inr (inr (is, r, a))) final = is ∙ untold_final outcome (subst IsFinal is final)
 
-pub seen_before : (outcome : Outcome) (line : List ℕ) (old new : SlotView) (result o : Outcome) → NotesLine outcome line old new result → result ≡ o → o ≢ OutOfMemory → o ≢ WriteFault slots.Note → outcome ≡ o
+pub seen_before : (outcome : Outcome) (line : List ℕ) (old new : SlotView) (result o : Outcome) → NotesLine outcome line old new result → result ≡ o → o ≢ OutOfMemory → o ≢ WriteFault slots.Note →
+    outcome ≡ o
 seen_before outcome line old new result o (inl (is, a)) e some other = sym is ∙ e
 seen_before outcome line old new result o (inr (inl (is, a))) e some other = absurd (some (sym e ∙ is))
 seen_before outcome line old new result o (inr (inr (is, r, a))) e some other = untold_seen outcome o (sym is ∙ e) other
 
-due_here : (due : WhyDue) (old mid new : Slot → SlotView) (outcome : Outcome) (line : List ℕ) (result : Outcome) → new slots.Report ≡ mid slots.Report → result ≡ outcome → EndsDue due old mid outcome line → IsDue due old new result
+due_here : (due : WhyDue) (old mid new : Slot → SlotView) (outcome : Outcome) (line : List ℕ) (result : Outcome) → new slots.Report ≡ mid slots.Report → result ≡ outcome →
+    EndsDue due old mid outcome line → IsDue due old new result
 due_here due old mid new outcome line result same is ends = record { answer = is ∙ ends.answer; left = subst (LeavesSlot due.report (old slots.Report)) (sym same) ends.left }
 
 ends_under : (asked : Result WhyAsked UsageFault) (old mid : Slot → SlotView) (outcome : Outcome) (line : List ℕ) → Ran asked old mid outcome line →
@@ -99,7 +101,8 @@ risen_reading asked old mid slots.Report h = absurd h
 risen_reading asked old mid slots.Note h = absurd h
 risen_reading asked old mid slots.Graph h = absurd h
 
-pub risen_writing : (asked : Result WhyAsked UsageFault) (old mid : Slot → SlotView) (s : Slot) → s ≢ slots.Note → WriteFaultCause asked old mid s → (s ≢ slots.Note) × IsRisen (old s).faults (mid s).faults
+pub risen_writing : (asked : Result WhyAsked UsageFault) (old mid : Slot → SlotView) (s : Slot) → s ≢ slots.Note → WriteFaultCause asked old mid s →
+    (s ≢ slots.Note) × IsRisen (old s).faults (mid s).faults
 risen_writing asked old mid slots.Report other h = (report_beside, h.1)
 risen_writing asked old mid slots.Note other h = absurd (other refl)
 risen_writing asked old mid slots.Out other h = absurd h
@@ -108,7 +111,8 @@ risen_writing asked old mid slots.Capture other h = absurd h
 risen_writing asked old mid slots.Graph other h = absurd h
 
 -- if no count rose, the work ended with a final outcome, or it ran out of memory
-no_fault : (asked : Result WhyAsked UsageFault) (old mid new : Slot → SlotView) (outcome : Outcome) (line : List ℕ) → Ran asked old mid outcome line → ((s : Slot) → s ≢ slots.Note → new s ≡ mid s) → NoneRose old new →
+no_fault : (asked : Result WhyAsked UsageFault) (old mid new : Slot → SlotView) (outcome : Outcome) (line : List ℕ) → Ran asked old mid outcome line → ((s : Slot) → s ≢ slots.Note → new s ≡ mid s) →
+    NoneRose old new →
     IsFinal outcome ⊎ (outcome ≡ OutOfMemory)
 no_fault asked old mid new outcome line ran beside none = go outcome refl
   where
@@ -133,7 +137,8 @@ pub prefix_here : (text text' : List ℕ) (old mid new : SlotView) → mid ≡ o
 prefix_here text text' old mid new p q a = subst (λ v. AppendsPrefix text' v new) p (subst (λ t. AppendsPrefix t mid new) q a)
 
 -- if no count rose, the answer is what is due
-pub called_answers : (asked : Result WhyAsked UsageFault) (old mid new : Slot → SlotView) (outcome : Outcome) (line : List ℕ) (result : Outcome) → Called asked old mid new outcome line result → NoneRose old new →
+pub called_answers : (asked : Result WhyAsked UsageFault) (old mid new : Slot → SlotView) (outcome : Outcome) (line : List ℕ) (result : Outcome) → Called asked old mid new outcome line result →
+    NoneRose old new →
     WhereRead asked old (λ p c. (IsDue (due_of_why asked p c) old new result × Appends (due_of_why asked p c).note (old slots.Note) (new slots.Note)) ⊎ (result ≡ OutOfMemory))
 called_answers asked old mid new outcome line result called none = if_read asked old _ _
     (λ p c ends. by_notes (due_of_why asked p c) ends called.notes) (ends_under asked old mid outcome line called.ran)
@@ -185,11 +190,13 @@ unnoted_text asked old mid (ReadFault s) line ran some = seen_text asked old mid
 unnoted_text asked old mid (WriteFault s) line ran some = seen_text asked old mid (WriteFault s) line ran some
 unnoted_text asked old mid OutOfMemory line ran some = seen_text asked old mid OutOfMemory line ran some
 
-pub called_noted : (asked : Result WhyAsked UsageFault) (old mid new : Slot → SlotView) (outcome : Outcome) (line : List ℕ) (result : Outcome) → Called asked old mid new outcome line result → result ≢ OutOfMemory →
+pub called_noted : (asked : Result WhyAsked UsageFault) (old mid new : Slot → SlotView) (outcome : Outcome) (line : List ℕ) (result : Outcome) → Called asked old mid new outcome line result →
+    result ≢ OutOfMemory →
     WhereRead asked old (λ p c. AppendsPrefix (note_due result (due_of_why asked p c).note) (old slots.Note) (new slots.Note))
 called_noted asked old mid new outcome line result called some = by_notes called.notes
   where
-    by_notes : NotesLine outcome line (mid slots.Note) (new slots.Note) result → WhereRead asked old (λ p c. AppendsPrefix (note_due result (due_of_why asked p c).note) (old slots.Note) (new slots.Note))
+    by_notes : NotesLine outcome line (mid slots.Note) (new slots.Note) result →
+        WhereRead asked old (λ p c. AppendsPrefix (note_due result (due_of_why asked p c).note) (old slots.Note) (new slots.Note))
     by_notes (inl (is, a)) = if_read asked old _ _
         (λ p c t. prefix_here line (note_due result (due_of_why asked p c).note) (old slots.Note) (mid slots.Note) (new slots.Note) called.ran.note_stays
         (t ∙ ap (λ o. note_due o (due_of_why asked p c).note) (sym is)) (prefix_whole line (mid slots.Note) (new slots.Note) a))
@@ -200,7 +207,8 @@ called_noted asked old mid new outcome line result called some = by_notes called
         (t ∙ ap (λ o. note_due o (due_of_why asked p c).note) (sym is)) a)
         (unnoted_text asked old mid outcome line called.ran (λ m. some (is ∙ m)))
 
-pub called_noted_whole : (asked : Result WhyAsked UsageFault) (old mid new : Slot → SlotView) (outcome : Outcome) (line : List ℕ) (result : Outcome) → Called asked old mid new outcome line result → result ≢ OutOfMemory →
+pub called_noted_whole : (asked : Result WhyAsked UsageFault) (old mid new : Slot → SlotView) (outcome : Outcome) (line : List ℕ) (result : Outcome) → Called asked old mid new outcome line result →
+    result ≢ OutOfMemory →
     ¬ IsRisen (old slots.Note).faults (new slots.Note).faults → WhereRead asked old (λ p c. Appends (note_due result (due_of_why asked p c).note) (old slots.Note) (new slots.Note))
 called_noted_whole asked old mid new outcome line result called some calm = by_notes called.notes
   where

@@ -59,7 +59,8 @@ reaches_untold asked (ReadFault s) old h = h
 reaches_untold asked (WriteFault s) old h = h
 reaches_untold asked OutOfMemory old h = h
 
-pub called_policy : (asked : Result WhyAsked UsageFault) (old mid new : Slot → SlotView) (outcome : Outcome) (line : List ℕ) (result : Outcome) → Called asked old mid new outcome line result → ReachesCapture asked result old
+pub called_policy : (asked : Result WhyAsked UsageFault) (old mid new : Slot → SlotView) (outcome : Outcome) (line : List ℕ) (result : Outcome) → Called asked old mid new outcome line result →
+    ReachesCapture asked result old
 called_policy asked old mid new outcome line result called = by_notes called.notes
   where
     by_notes : NotesLine outcome line (mid slots.Note) (new slots.Note) result → ReachesCapture asked result old
@@ -72,7 +73,8 @@ note_name outcome line old new result (inl (is, a)) = a.same_name
 note_name outcome line old new result (inr (inl (is, a))) = a.appended.same_name
 note_name outcome line old new result (inr (inr (is, r, a))) = a.appended.same_name
 
-pub called_names : (asked : Result WhyAsked UsageFault) (old mid new : Slot → SlotView) (outcome : Outcome) (line : List ℕ) (result : Outcome) → Called asked old mid new outcome line result → HasNames asked new
+pub called_names : (asked : Result WhyAsked UsageFault) (old mid new : Slot → SlotView) (outcome : Outcome) (line : List ℕ) (result : Outcome) → Called asked old mid new outcome line result →
+    HasNames asked new
 called_names asked old mid new outcome line result called = go asked called.ran.names_are
   where
     same : (s : Slot) → (new s).name ≡ (mid s).name
@@ -108,7 +110,8 @@ called_usage_always asked old mid new outcome line result called fault e = by_no
     by_notes (inr (inl (is, a))) = inr is
     by_notes (inr (inr (is, r, a))) = elim seen [ inl u ↦ inl (is ∙ ap untold u) | inr m ↦ inr (is ∙ ap untold m) ]
 
-pub called_read_whole : (asked : Result WhyAsked UsageFault) (old mid new : Slot → SlotView) (outcome : Outcome) (line : List ℕ) (result : Outcome) → Called asked old mid new outcome line result → result ≡ Done → ReadsToEnd new
+pub called_read_whole : (asked : Result WhyAsked UsageFault) (old mid new : Slot → SlotView) (outcome : Outcome) (line : List ℕ) (result : Outcome) → Called asked old mid new outcome line result →
+    result ≡ Done → ReadsToEnd new
 called_read_whole asked old mid new outcome line result called e =
     let whole = called.ran.drained (seen_before outcome line (mid slots.Note) (new slots.Note) result Done called.notes e (λ h. cc) (λ h. cc)) in
     (subst IsReadWhole (sym (called.beside slots.Policy policy_beside)) whole.0, subst IsReadWhole (sym (called.beside slots.Capture capture_beside)) whole.1)
@@ -122,8 +125,10 @@ called_refused asked old mid new outcome line result called fault e =
     let cause = called.ran.refused fault (seen_before outcome line (mid slots.Note) (new slots.Note) result (Policy fault) called.notes e (λ h. cc) (λ h. cc)) in
     (cause.0, cause.1, capture_name mid new (called.beside slots.Capture capture_beside) cause.2)
 
-read_to : (asked : Result WhyAsked UsageFault) (old mid new : Slot → SlotView) (s : Slot) → ((x : Slot) → x ≢ slots.Note → new x ≡ mid x) → ReadFaultCause asked old mid s → ReadFaultCause asked old new s
-read_to asked old mid new slots.Policy beside h = (h.0, subst (λ v. IsRisen (old slots.Policy).faults v.faults) (sym (beside slots.Policy policy_beside)) h.1, capture_name mid new (beside slots.Capture capture_beside) h.2)
+read_to : (asked : Result WhyAsked UsageFault) (old mid new : Slot → SlotView) (s : Slot) → ((x : Slot) → x ≢ slots.Note → new x ≡ mid x) → ReadFaultCause asked old mid s →
+    ReadFaultCause asked old new s
+read_to asked old mid new slots.Policy beside h =
+    (h.0, subst (λ v. IsRisen (old slots.Policy).faults v.faults) (sym (beside slots.Policy policy_beside)) h.1, capture_name mid new (beside slots.Capture capture_beside) h.2)
 read_to asked old mid new slots.Capture beside h = (h.0, subst (λ v. IsRisen (old slots.Capture).faults v.faults) (sym (beside slots.Capture capture_beside)) h.1)
 read_to asked old mid new slots.Out beside h = h
 read_to asked old mid new slots.Report beside h = h
@@ -135,7 +140,8 @@ pub called_read_faults : (asked : Result WhyAsked UsageFault) (old mid new : Slo
 called_read_faults asked old mid new outcome line result called s e = read_to asked old mid new s called.beside
     (called.ran.read_faults s (seen_before outcome line (mid slots.Note) (new slots.Note) result (ReadFault s) called.notes e (λ h. cc) (λ h. cc)))
 
-write_to : (asked : Result WhyAsked UsageFault) (old mid new : Slot → SlotView) (s : Slot) → s ≢ slots.Note → ((x : Slot) → x ≢ slots.Note → new x ≡ mid x) → WriteFaultCause asked old mid s → WriteFaultCause asked old new s
+write_to : (asked : Result WhyAsked UsageFault) (old mid new : Slot → SlotView) (s : Slot) → s ≢ slots.Note → ((x : Slot) → x ≢ slots.Note → new x ≡ mid x) → WriteFaultCause asked old mid s →
+    WriteFaultCause asked old new s
 write_to asked old mid new slots.Report other beside h = (h.0, subst (λ v. IsRisen (old slots.Report).faults v.faults) (sym (beside slots.Report report_beside)) h.1)
 write_to asked old mid new slots.Note other beside h = absurd (other refl)
 write_to asked old mid new slots.Out other beside h = h

@@ -61,7 +61,8 @@ same_read a c x = cc
 same_write : (a c : Slot) → WriteFault a ≡ WriteFault c → a ≡ c
 same_write a c x = cc
 
-pub ran_by : (asked : Result WhyAsked UsageFault) (old new : Slot → SlotView) (outcome : Outcome) (line : List ℕ) → Stays asked old new outcome → HasCause asked old new outcome line → Ran asked old new outcome line
+pub ran_by : (asked : Result WhyAsked UsageFault) (old new : Slot → SlotView) (outcome : Outcome) (line : List ℕ) → Stays asked old new outcome → HasCause asked old new outcome line →
+    Ran asked old new outcome line
 ran_by asked old new Done line stays cause = record {
   due = λ final. cause.2;
   prefix = stays.prefix_of;
@@ -217,7 +218,8 @@ pub unread_ran : (asked : Result WhyAsked UsageFault) (old : Slot → SlotView) 
 unread_ran asked old free = ran_by asked old old OutOfMemory []
     (untouched_stays asked old OutOfMemory free (unmade_attaches asked (old slots.Report) (free slots.Report)) (λ fault e. inr refl)) refl
 
-pub usage_ran : (asked : Result WhyAsked UsageFault) (old : Slot → SlotView) (fault : UsageFault) → ((s : Slot) → (old s).name ≡ None) → asked ≡ Err fault → Ran asked old old (Usage fault) (usage_text fault)
+pub usage_ran : (asked : Result WhyAsked UsageFault) (old : Slot → SlotView) (fault : UsageFault) → ((s : Slot) → (old s).name ≡ None) → asked ≡ Err fault →
+    Ran asked old old (Usage fault) (usage_text fault)
 usage_ran asked old fault free is = subst (λ a. Ran a old old (Usage fault) (usage_text fault)) (sym is)
     (ran_by (Err fault) old old (Usage fault) (usage_text fault)
     (untouched_stays (Err fault) old (Usage fault) free (free slots.Report) (λ other e. inl (ap Usage (same fault other e))))
@@ -259,12 +261,14 @@ only_stays asked old new outcome only attaches = record {
 
 refusal_due : (asked : WhyAsked) (old new : Slot → SlotView) (refusal : Refusal) → IsUntouched (old slots.Report) (new slots.Report) → (p : List ℕ) → judged p ≡ Err refusal → (c : List ℕ) →
     EndsDue (due_of_why (Ok asked) p c) old new (Policy refusal.fault) refusal.line
-refusal_due asked old new refusal left p is c = subst (λ r. EndsDue (due_of_judged asked.record_number r c) old new (Policy refusal.fault) refusal.line) (sym is) (record { answer = refl; left = left; note = refl })
+refusal_due asked old new refusal left p is c =
+    subst (λ r. EndsDue (due_of_judged asked.record_number r c) old new (Policy refusal.fault) refusal.line) (sym is) (record { answer = refl; left = left; note = refl })
 
 told_fault : (refusal : Refusal) (r : Result Judged Refusal) → r ≡ Err refusal → IsFaultOf refusal.fault r
 told_fault refusal r is = subst (IsFaultOf refusal.fault) (sym is) refl
 
-pub policy_ran : (asked : WhyAsked) (old new : Slot → SlotView) (ending : Ending) → OnlyPolicy asked old new → EndsAtPolicy (old slots.Policy) (new slots.Policy) ending → Ran (Ok asked) old new (outcome_seen ending) (text_of ending)
+pub policy_ran : (asked : WhyAsked) (old new : Slot → SlotView) (ending : Ending) → OnlyPolicy asked old new → EndsAtPolicy (old slots.Policy) (new slots.Policy) ending →
+    Ran (Ok asked) old new (outcome_seen ending) (text_of ending)
 policy_ran asked old new (Refused refusal) only h = ran_by (Ok asked) old new (Policy refusal.fault) refusal.line
     (only_stays asked old new (Policy refusal.fault) only (only_name asked old new only slots.Report report_is_not_policy)) (
       (tt, if_of (old slots.Policy).bytes _ _ (λ p is. told_fault refusal (judged p) is) h, only_name asked old new only slots.Capture capture_is_not_policy),

@@ -92,11 +92,13 @@ pcap_is_given head (Some body) bytes format whole = record {
   good = subst (λ b. HasNoOpeningFault b bytes) (sym format) (subst IsOk (sym whole) (let opened : CaptureHead × Body = (head, body) in is_ok CaptureFault opened));
 }
 
-first_due : (policy : Judged) (asked : Option ℕ) (bytes : List ℕ) (first : Result (Option (NgItem × Place × List ℕ)) NgFault) → IsOk first → due_of_ng policy asked bytes first ≡ due_of_blocks policy asked (blocks_of start bytes)
+first_due : (policy : Judged) (asked : Option ℕ) (bytes : List ℕ) (first : Result (Option (NgItem × Place × List ℕ)) NgFault) → IsOk first →
+    due_of_ng policy asked bytes first ≡ due_of_blocks policy asked (blocks_of start bytes)
 first_due policy asked bytes (Ok x) good = refl
 first_due policy asked bytes (Err fault) good = absurd cc
 
-ng_is_given : (left : Option (Stream PacketBeside NgItem)) (bytes : List ℕ) → is_ng bytes ≡ true → left ≡ Some (ng_stream (blocks_of start bytes)) → IsOk (next_of start bytes) → IsGiven (option_map (packets_of Nano) left) bytes
+ng_is_given : (left : Option (Stream PacketBeside NgItem)) (bytes : List ℕ) → is_ng bytes ≡ true → left ≡ Some (ng_stream (blocks_of start bytes)) → IsOk (next_of start bytes) →
+    IsGiven (option_map (packets_of Nano) left) bytes
 ng_is_given left bytes format whole good = record {
   given = packets_of Nano (ng_stream (blocks_of start bytes));
   is = ap (option_map (packets_of Nano)) whole;
@@ -117,11 +119,13 @@ opens_so name opened old new opens = if_told old.bytes _ _ (λ bytes h. opened_i
 abbrev due_led : List PlainChain → Option ℕ → Packets → WhyDue
 due_led chains asked p = due_of_ways (ordered_of chains) (ways_led chains p) p.fault asked
 
-ready_same : (policy : Judged) (chains : List PlainChain) (asked : Option ℕ) (p : Packets) → IsReadyOf chains (Ok policy) → due_of_packets policy asked p.unit p.packets p.fault ≡ due_led chains asked p
+ready_same : (policy : Judged) (chains : List PlainChain) (asked : Option ℕ) (p : Packets) → IsReadyOf chains (Ok policy) →
+    due_of_packets policy asked p.unit p.packets p.fault ≡ due_led chains asked p
 ready_same policy chains asked p ready =
     ap (λ all. due_of_ways all (ways_of (chains_judged policy) p.unit p.packets) p.fault asked) (sym ready.1) ∙ ap (λ c. due_of_ways (ordered_of chains) (ways_of c p.unit p.packets) p.fault asked) (sym ready.0)
 
-told_due : (asked : WhyAsked) (old : Slot → SlotView) (chains : List PlainChain) (left : Option Packets) (P : WhyDue → Type 0) → IsReady (old slots.Policy) chains → IfSome (old slots.Capture).bytes (IsGiven left) →
+told_due : (asked : WhyAsked) (old : Slot → SlotView) (chains : List PlainChain) (left : Option Packets) (P : WhyDue → Type 0) → IsReady (old slots.Policy) chains →
+    IfSome (old slots.Capture).bytes (IsGiven left) →
     IfSome left (λ p. P (due_led chains asked.record_number p)) → WhereRead (Ok asked) old (λ p c. P (due_of_why (Ok asked) p c))
 told_due asked old chains left P ready told all = ready_due asked old chains P ready
     (λ policy r. if_told (old slots.Capture).bytes _ _
@@ -138,20 +142,23 @@ stopped_line (formats.Pcap fault) ways None = refl
 stopped_line (formats.Ng fault) ways (Some n) = refl
 stopped_line (formats.Ng fault) ways None = refl
 
-missing_due : (number : ℕ) (ways : List Way) (ending : WhyEnding) → MissingEnds number ending → IsFinal (why_outcome ending) → (why_outcome ending ≡ Done) × (why_line ending ≡ note_by ways (Some number) None None)
+missing_due : (number : ℕ) (ways : List Way) (ending : WhyEnding) → MissingEnds number ending → IsFinal (why_outcome ending) →
+    (why_outcome ending ≡ Done) × (why_line ending ≡ note_by ways (Some number) None None)
 missing_due number ways (Traced outcome line) ends final = absurd ends
 missing_due number ways (Ended ending) (inl is) final = (ap outcome_seen is, ap text_of is)
 missing_due number ways (Ended ending) (inr is) final = absurd (subst (λ e. IsFinal (outcome_seen e)) is final)
 
 traced_due : (totals : Totals) (asked : Option ℕ) (ways : List Way) (fault : Option FormatFault) (trace : Option (List ℕ)) (ending : WhyEnding) → TracedEnds totals asked fault trace ending →
-    totals.records ≡ length ways → totals.dropped ≡ count_by (λ way. is_gone way.fate) ways → IsFinal (why_outcome ending) → (why_outcome ending ≡ outcome_of fault) × (why_line ending ≡ note_by ways asked fault trace)
+    totals.records ≡ length ways → totals.dropped ≡ count_by (λ way. is_gone way.fate) ways → IsFinal (why_outcome ending) →
+    (why_outcome ending ≡ outcome_of fault) × (why_line ending ≡ note_by ways asked fault trace)
 traced_due totals asked ways fault (Some text) ending ends read dropped final = (ap why_outcome ends, ap why_line ends)
 traced_due totals asked ways (Some fault) None ending ends read dropped final = (ap why_outcome ends, ap why_line ends ∙ stopped_line fault ways asked)
 traced_due totals (Some number) ways None None ending ends read dropped final = missing_due number ways ending ends final
 traced_due totals None ways None None ending ends read dropped final =
     (ap why_outcome ends, ap why_line ends ∙ ap (λ n. done_text n totals.dropped) read ∙ ap (done_text (length ways)) dropped)
 
-ended_due : (chains : List PlainChain) (asked : Option ℕ) (p : Packets) (ended : WhyEnded) (ending : WhyEnding) (old new : Slot → SlotView) → Tells chains asked p ended → TracedEnds ended.totals asked ended.fault ended.trace ending →
+ended_due : (chains : List PlainChain) (asked : Option ℕ) (p : Packets) (ended : WhyEnded) (ending : WhyEnding) (old new : Slot → SlotView) → Tells chains asked p ended →
+    TracedEnds ended.totals asked ended.fault ended.trace ending →
     IsFinal (why_outcome ending) → LeavesSlot (Some (report_led chains p)) (old slots.Report) (new slots.Report) → EndsDue (due_led chains asked p) old new (why_outcome ending) (why_line ending)
 ended_due chains asked p ended ending old new tells ends final left =
     let both = traced_due ended.totals asked (ways_led chains p) ended.fault ended.trace ending ends tells.read tells.dropped final in
@@ -188,7 +195,8 @@ pub record IsLedTo (asked : WhyAsked) (chains : List PlainChain) (left : Option 
 same_report : (asked : WhyAsked) (chains : List PlainChain) (left : Option Packets) (old mid : Slot → SlotView) → IsStarted asked chains left old mid → mid slots.Report ≡ old slots.Report
 same_report asked chains left old mid started = started.before slots.Report report_is_not_policy report_is_not_capture
 
-left_prefix : (chains : List PlainChain) (asked : Option ℕ) (old new : SlotView) (r : Result WhyEnded RunFault) (p : Packets) → Left chains asked old new r p → LeavesPrefix (Some (report_led chains p)) old new
+left_prefix : (chains : List PlainChain) (asked : Option ℕ) (old new : SlotView) (r : Result WhyEnded RunFault) (p : Packets) → Left chains asked old new r p →
+    LeavesPrefix (Some (report_led chains p)) old new
 left_prefix chains asked old new (Ok ended) p left = whole_prefix (report_led chains p) old new left.0
 left_prefix chains asked old new (Err fault) p left = left
 
@@ -197,12 +205,14 @@ if_packets None P Q f h = tt
 if_packets (Some p) P Q f h = f p h
 
 -- what is left in Report, seen from the start
-from_start : (asked : WhyAsked) (chains : List PlainChain) (left : Option Packets) (old mid new : Slot → SlotView) (r : Result WhyEnded RunFault) → IsStarted asked chains left old mid → IsLedTo asked chains left mid new r →
+from_start : (asked : WhyAsked) (chains : List PlainChain) (left : Option Packets) (old mid new : Slot → SlotView) (r : Result WhyEnded RunFault) → IsStarted asked chains left old mid →
+    IsLedTo asked chains left mid new r →
     IfSome left (Left chains asked.record_number (old slots.Report) (new slots.Report) r)
 from_start asked chains left old mid new r started led =
     subst (λ v. IfSome left (Left chains asked.record_number v (new slots.Report) r)) (same_report asked chains left old mid started) led.left_so
 
-led_names : (asked : WhyAsked) (chains : List PlainChain) (left : Option Packets) (old mid new : Slot → SlotView) (r : Result WhyEnded RunFault) → IsStarted asked chains left old mid → IsLedTo asked chains left mid new r → HasNames (Ok asked) new
+led_names : (asked : WhyAsked) (chains : List PlainChain) (left : Option Packets) (old mid new : Slot → SlotView) (r : Result WhyEnded RunFault) → IsStarted asked chains left old mid →
+    IsLedTo asked chains left mid new r → HasNames (Ok asked) new
 led_names asked chains left old mid new r started led = names
   where
     still : (s : Slot) → s ≢ slots.Policy → s ≢ slots.Capture → s ≢ slots.Report → (new s).name ≡ None
@@ -224,7 +234,8 @@ led_names asked chains left old mid new r started led = names
     names slots.Note = inl (still slots.Note (λ h. cc) (λ h. cc) (λ h. cc))
     names slots.Graph = inl (still slots.Graph (λ h. cc) (λ h. cc) (λ h. cc))
 
-led_stays : (asked : WhyAsked) (chains : List PlainChain) (left : Option Packets) (old mid new : Slot → SlotView) (r : Result WhyEnded RunFault) (outcome : Outcome) → IsStarted asked chains left old mid → IsLedTo asked chains left mid new r →
+led_stays : (asked : WhyAsked) (chains : List PlainChain) (left : Option Packets) (old mid new : Slot → SlotView) (r : Result WhyEnded RunFault) (outcome : Outcome) →
+    IsStarted asked chains left old mid → IsLedTo asked chains left mid new r →
     ReportAttaches outcome (new slots.Report) → Stays (Ok asked) old new outcome
 led_stays asked chains left old mid new r outcome started led attaches = record {
   prefix_of = told_due asked old chains left (λ due. LeavesPrefix due.report (old slots.Report) (new slots.Report)) started.ready started.told
@@ -295,7 +306,8 @@ read_to_end ended new policy drained done = (policy, go ended.fault drained done
     go (Some (formats.Pcap fault)) whole e = absurd cc
     go (Some (formats.Ng fault)) whole e = absurd cc
 
-closing_cause : (asked : WhyAsked) (chains : List PlainChain) (left : Option Packets) (old mid new : Slot → SlotView) (outcome : Outcome) (line : List ℕ) → IsStarted asked chains left old mid → IsClosing outcome → (outcome ≡ Done → ReadsToEnd new) →
+closing_cause : (asked : WhyAsked) (chains : List PlainChain) (left : Option Packets) (old mid new : Slot → SlotView) (outcome : Outcome) (line : List ℕ) → IsStarted asked chains left old mid →
+    IsClosing outcome → (outcome ≡ Done → ReadsToEnd new) →
     IsDueHere (Ok asked) old new outcome line → HasCause (Ok asked) old new outcome line
 closing_cause asked chains left old mid new Done line started kind whole due = (has_policy old chains started.ready, whole refl, due)
 closing_cause asked chains left old mid new (Capture fault) line started kind whole due = (has_policy old chains started.ready, due)
@@ -318,7 +330,8 @@ closing_final (ReadFault s) kind = kind
 closing_final (WriteFault s) kind = kind
 closing_final OutOfMemory kind = kind
 
-ok_ran : (asked : WhyAsked) (chains : List PlainChain) (left : Option Packets) (old mid new : Slot → SlotView) (ended : WhyEnded) (ending : WhyEnding) → IsStarted asked chains left old mid → IsLedTo asked chains left mid new (Ok ended) →
+ok_ran : (asked : WhyAsked) (chains : List PlainChain) (left : Option Packets) (old mid new : Slot → SlotView) (ended : WhyEnded) (ending : WhyEnding) → IsStarted asked chains left old mid →
+    IsLedTo asked chains left mid new (Ok ended) →
     TracedEnds ended.totals asked.record_number ended.fault ended.trace ending → EndsSo ended.fault ending → Ran (Ok asked) old new (why_outcome ending) (why_line ending)
 ok_ran asked chains left old mid new ended ending started led ends (inl is) =
     let kind : IsClosing (why_outcome ending) = subst IsClosing (sym is) (closing ended.fault) in
@@ -336,14 +349,17 @@ ok_ran asked chains left old mid new ended ending started led ends (inr (is, not
 
 -- ---- a capture that wasn't led to its end
 
-stopped_ran : (asked : WhyAsked) (old new : Slot → SlotView) (outcome : Outcome) (ending : WhyEnding) → ending ≡ Ended (Stopped outcome) → Ran (Ok asked) old new outcome (stop_text outcome) → Ran (Ok asked) old new (why_outcome ending) (why_line ending)
+stopped_ran : (asked : WhyAsked) (old new : Slot → SlotView) (outcome : Outcome) (ending : WhyEnding) → ending ≡ Ended (Stopped outcome) → Ran (Ok asked) old new outcome (stop_text outcome) →
+    Ran (Ok asked) old new (why_outcome ending) (why_line ending)
 stopped_ran asked old new outcome ending is ran = subst (λ e. Ran (Ok asked) old new (why_outcome e) (why_line e)) (sym is) ran
 
-unmade_ran : (asked : WhyAsked) (chains : List PlainChain) (left : Option Packets) (old mid new : Slot → SlotView) (r : Result WhyEnded RunFault) → IsStarted asked chains left old mid → IsLedTo asked chains left mid new r →
+unmade_ran : (asked : WhyAsked) (chains : List PlainChain) (left : Option Packets) (old mid new : Slot → SlotView) (r : Result WhyEnded RunFault) → IsStarted asked chains left old mid →
+    IsLedTo asked chains left mid new r →
     Ran (Ok asked) old new OutOfMemory (stop_text OutOfMemory)
 unmade_ran asked chains left old mid new r started led = ran_by (Ok asked) old new OutOfMemory [] (led_stays asked chains left old mid new r OutOfMemory started led tt) refl
 
-pub ended_ran : (asked : WhyAsked) (chains : List PlainChain) (left : Option Packets) (old mid new : Slot → SlotView) (r : Result WhyEnded RunFault) (ending : WhyEnding) → IsStarted asked chains left old mid → IsLedTo asked chains left mid new r →
+pub ended_ran : (asked : WhyAsked) (chains : List PlainChain) (left : Option Packets) (old mid new : Slot → SlotView) (r : Result WhyEnded RunFault) (ending : WhyEnding) →
+    IsStarted asked chains left old mid → IsLedTo asked chains left mid new r →
     IsEndingOf asked.record_number r ending → Ran (Ok asked) old new (why_outcome ending) (why_line ending)
 ended_ran asked chains left old mid new (Ok ended) ending started led ends =
     ok_ran asked chains left old mid new ended ending started led ends (ends_so ended.totals asked.record_number ended.fault ended.trace ending ends)
@@ -353,9 +369,11 @@ ended_ran asked chains left old mid new (Err faults.ReadFault) ending started le
 ended_ran asked chains left old mid new (Err (faults.WriteFault slots.Report)) ending started led ends = stopped_ran asked old new (WriteFault slots.Report) ending ends
     (ran_by (Ok asked) old new (WriteFault slots.Report) _ (led_stays asked chains left old mid new (Err (faults.WriteFault slots.Report)) (WriteFault slots.Report) started led tt)
     (((has_policy old chains started.ready, has_head old left started.told), subst (λ v. IsRisen v.faults (new slots.Report).faults) (same_report asked chains left old mid started) led.cause), (λ h. cc), refl))
-ended_ran asked chains left old mid new (Err (faults.WriteFault slots.Out)) ending started led ends = stopped_ran asked old new OutOfMemory ending ends (unmade_ran asked chains left old mid new (Err (faults.WriteFault slots.Out)) started led)
+ended_ran asked chains left old mid new (Err (faults.WriteFault slots.Out)) ending started led ends =
+    stopped_ran asked old new OutOfMemory ending ends (unmade_ran asked chains left old mid new (Err (faults.WriteFault slots.Out)) started led)
 ended_ran asked chains left old mid new (Err (faults.WriteFault slots.Policy)) ending started led ends = absurd led.cause
 ended_ran asked chains left old mid new (Err (faults.WriteFault slots.Capture)) ending started led ends = absurd led.cause
 ended_ran asked chains left old mid new (Err (faults.WriteFault slots.Note)) ending started led ends = absurd led.cause
 ended_ran asked chains left old mid new (Err (faults.WriteFault slots.Graph)) ending started led ends = absurd led.cause
-ended_ran asked chains left old mid new (Err faults.OutOfMemory) ending started led ends = stopped_ran asked old new OutOfMemory ending ends (unmade_ran asked chains left old mid new (Err faults.OutOfMemory) started led)
+ended_ran asked chains left old mid new (Err faults.OutOfMemory) ending started led ends =
+    stopped_ran asked old new OutOfMemory ending ends (unmade_ran asked chains left old mid new (Err faults.OutOfMemory) started led)

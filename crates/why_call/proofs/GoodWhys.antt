@@ -52,7 +52,8 @@ pcap_is_done words asked p c policy head records is good whole =
     ∙ ap (λ b. (due_by_format b policy asked.record_number c).outcome) (classic c (head, record { records = records; fault = None }) whole)
     ∙ ap (λ r. (due_of_pcap policy asked.record_number r).outcome) whole
 
-first_good : (policy : Judged) (asked : Option ℕ) (c : List ℕ) (items : List NgItem) (first : Result (Option (NgItem × Place × List ℕ)) NgFault) → IsOk first → blocks_of start c ≡ record { items = items; fault = None } → (due_of_ng policy asked c first).outcome ≡ Done
+first_good : (policy : Judged) (asked : Option ℕ) (c : List ℕ) (items : List NgItem) (first : Result (Option (NgItem × Place × List ℕ)) NgFault) → IsOk first →
+    blocks_of start c ≡ record { items = items; fault = None } → (due_of_ng policy asked c first).outcome ≡ Done
 first_good policy asked c items (Ok x) good whole = ap (λ blocks. outcome_of (option_map Ng blocks.fault)) whole
 first_good policy asked c items (Err fault) good whole = absurd cc
 

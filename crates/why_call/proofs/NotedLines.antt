@@ -30,7 +30,8 @@ untold_is_not_done (ReadFault s) e = cc
 untold_is_not_done (WriteFault s) e = cc
 untold_is_not_done OutOfMemory e = cc
 
-pub called_done_noted : (asked : Result WhyAsked UsageFault) (old mid new : Slot → SlotView) (outcome : Outcome) (line : List ℕ) (result : Outcome) → Called asked old mid new outcome line result → result ≡ Done →
+pub called_done_noted : (asked : Result WhyAsked UsageFault) (old mid new : Slot → SlotView) (outcome : Outcome) (line : List ℕ) (result : Outcome) → Called asked old mid new outcome line result →
+    result ≡ Done →
     WhereRead asked old (λ p c. Appends (due_of_why asked p c).note (old slots.Note) (new slots.Note))
 called_done_noted asked old mid new outcome line result called done = by_notes called.notes
   where
@@ -50,10 +51,12 @@ IsTold old mid due line =
     ⊎ ((s : Slot) × (s ≢ slots.Note) × IsRisen (old s).faults (mid s).faults × (line ≡ write_fault_text s))
     ⊎ (line ≡ [])
 
-due_told : (asked : Result WhyAsked UsageFault) (old mid : Slot → SlotView) (outcome : Outcome) (line : List ℕ) → Ran asked old mid outcome line → IsFinal outcome → WhereRead asked old (λ p c. IsTold old mid (due_of_why asked p c) line)
+due_told : (asked : Result WhyAsked UsageFault) (old mid : Slot → SlotView) (outcome : Outcome) (line : List ℕ) → Ran asked old mid outcome line → IsFinal outcome →
+    WhereRead asked old (λ p c. IsTold old mid (due_of_why asked p c) line)
 due_told asked old mid outcome line ran final = if_read asked old _ _ (λ p c ends. inl (ends.note, ends.left)) (ran.due final)
 
-told_text : (asked : Result WhyAsked UsageFault) (old mid : Slot → SlotView) (outcome : Outcome) (line : List ℕ) → Ran asked old mid outcome line → WhereRead asked old (λ p c. IsTold old mid (due_of_why asked p c) line)
+told_text : (asked : Result WhyAsked UsageFault) (old mid : Slot → SlotView) (outcome : Outcome) (line : List ℕ) → Ran asked old mid outcome line →
+    WhereRead asked old (λ p c. IsTold old mid (due_of_why asked p c) line)
 told_text asked old mid Done line ran = due_told asked old mid Done line ran tt
 told_text asked old mid (Usage fault) line ran = due_told asked old mid (Usage fault) line ran tt
 told_text asked old mid (Policy fault) line ran = due_told asked old mid (Policy fault) line ran tt
@@ -76,7 +79,8 @@ nothing_before : (old new : SlotView) → AppendsPrefix [] old new → Appends [
 nothing_before old new a = subst (λ d. Appends d old new) (nothing_in_front a.done a.rest a.parts) a.appended
 
 -- the slots beside Note, and Note before its line, are those in the middle
-prefix_told : (due : WhyDue) (line : List ℕ) (old mid new : Slot → SlotView) → mid slots.Note ≡ old slots.Note → ((s : Slot) → s ≢ slots.Note → new s ≡ mid s) → IsTold old mid due line → AppendsPrefix line (mid slots.Note) (new slots.Note) →
+prefix_told : (due : WhyDue) (line : List ℕ) (old mid new : Slot → SlotView) → mid slots.Note ≡ old slots.Note → ((s : Slot) → s ≢ slots.Note → new s ≡ mid s) → IsTold old mid due line →
+    AppendsPrefix line (mid slots.Note) (new slots.Note) →
     NotesPrefix due old new
 prefix_told due line old mid new stays beside told a = by told
   where
@@ -92,7 +96,8 @@ prefix_told due line old mid new stays beside told a = by told
     by (inr (inr (inl (s, other, h, e)))) = inr (inr (inl (s, still s other h, put (write_fault_text s) e)))
     by (inr (inr (inr e))) = inr (inr (inr (nothing_before (old slots.Note) (new slots.Note) (put [] e))))
 
-pub called_noted_short : (asked : Result WhyAsked UsageFault) (old mid new : Slot → SlotView) (outcome : Outcome) (line : List ℕ) (result : Outcome) → Called asked old mid new outcome line result → result ≡ OutOfMemory →
+pub called_noted_short : (asked : Result WhyAsked UsageFault) (old mid new : Slot → SlotView) (outcome : Outcome) (line : List ℕ) (result : Outcome) → Called asked old mid new outcome line result →
+    result ≡ OutOfMemory →
     WhereRead asked old (λ p c. NotesPrefix (due_of_why asked p c) old new)
 called_noted_short asked old mid new outcome line result called short = if_read asked old _ _
     (λ p c told. prefix_told (due_of_why asked p c) line old mid new called.ran.note_stays called.beside told (by_notes called.notes))
@@ -103,7 +108,8 @@ called_noted_short asked old mid new outcome line result called short = if_read 
     by_notes (inr (inl (is, a))) = a
     by_notes (inr (inr (is, r, a))) = a
 
-pub called_noted_late : (asked : Result WhyAsked UsageFault) (old mid new : Slot → SlotView) (outcome : Outcome) (line : List ℕ) (result : Outcome) → Called asked old mid new outcome line result → result ≡ OutOfMemory → NoneRose old new →
+pub called_noted_late : (asked : Result WhyAsked UsageFault) (old mid new : Slot → SlotView) (outcome : Outcome) (line : List ℕ) (result : Outcome) → Called asked old mid new outcome line result →
+    result ≡ OutOfMemory → NoneRose old new →
     WhereRead asked old (λ p c. LeavesSlot (due_of_why asked p c).report (old slots.Report) (new slots.Report) ⊎ Appends [] (old slots.Note) (new slots.Note))
 called_noted_late asked old mid new outcome line result called short none = if_read asked old _ _
     (λ p c notes. by (due_of_why asked p c) notes)

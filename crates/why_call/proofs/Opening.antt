@@ -113,16 +113,20 @@ head_attaches (CutRecord number) report head free = absurd head
 head_attaches (FrameTooLong number length) report head free = absurd head
 head_attaches TooManyRecords report head free = absurd head
 
-classic_due : (policy : Judged) (asked : Option ℕ) (fault : CaptureFault) (c : List ℕ) → (is_ng c ≡ false) × (capture_of c ≡ Err fault) → due_of_capture policy asked c ≡ nothing_but (Capture fault) (capture_text fault)
+classic_due : (policy : Judged) (asked : Option ℕ) (fault : CaptureFault) (c : List ℕ) → (is_ng c ≡ false) × (capture_of c ≡ Err fault) →
+    due_of_capture policy asked c ≡ nothing_but (Capture fault) (capture_text fault)
 classic_due policy asked fault c is = ap (λ b. due_by_format b policy asked c) is.0 ∙ ap (due_of_pcap policy asked) is.1
 
-ng_due : (policy : Judged) (asked : Option ℕ) (fault : NgFault) (c : List ℕ) → (is_ng c ≡ true) × (next_of start c ≡ Err fault) → due_of_capture policy asked c ≡ nothing_but (CaptureNg fault) (ng_text fault)
+ng_due : (policy : Judged) (asked : Option ℕ) (fault : NgFault) (c : List ℕ) → (is_ng c ≡ true) × (next_of start c ≡ Err fault) →
+    due_of_capture policy asked c ≡ nothing_but (CaptureNg fault) (ng_text fault)
 ng_due policy asked fault c is = ap (λ b. due_by_format b policy asked c) is.0 ∙ ap (due_of_ng policy asked c) is.1
 
-ends_so : (due : WhyDue) (old new : Slot → SlotView) (outcome : Outcome) (line : List ℕ) → IsUntouched (old slots.Report) (new slots.Report) → due ≡ nothing_but outcome line → EndsDue due old new outcome line
+ends_so : (due : WhyDue) (old new : Slot → SlotView) (outcome : Outcome) (line : List ℕ) → IsUntouched (old slots.Report) (new slots.Report) → due ≡ nothing_but outcome line →
+    EndsDue due old new outcome line
 ends_so due old new outcome line left is = subst (λ d. EndsDue d old new outcome line) (sym is) (record { answer = refl; left = left; note = refl })
 
-pub unopened_ran : (asked : WhyAsked) (old new : Slot → SlotView) (chains : List PlainChain) (outcome : Outcome) → OnlyRead asked old new → IsReady (old slots.Policy) chains → RefusedOpening (old slots.Capture) (new slots.Capture) outcome →
+pub unopened_ran : (asked : WhyAsked) (old new : Slot → SlotView) (chains : List PlainChain) (outcome : Outcome) → OnlyRead asked old new → IsReady (old slots.Policy) chains →
+    RefusedOpening (old slots.Capture) (new slots.Capture) outcome →
     Ran (Ok asked) old new outcome (stop_text outcome)
 unopened_ran asked old new chains (Capture fault) only ready h = ran_by (Ok asked) old new (Capture fault) (capture_text fault)
     (only_stays asked old new (Capture fault) only (head_attaches fault (new slots.Report) h.0 (report_free asked old new only))) (
@@ -148,7 +152,8 @@ unopened_ran asked old new chains (Graph fault) only ready h = absurd h
 unopened_ran asked old new chains (WriteFault s) only ready h = absurd h
 
 -- the same from where the policy was read
-pub refused_ran : (asked : WhyAsked) (old first new : Slot → SlotView) (chains : List PlainChain) (outcome : Outcome) → BothRead asked chains old first new → RefusedOpening (first slots.Capture) (new slots.Capture) outcome →
+pub refused_ran : (asked : WhyAsked) (old first new : Slot → SlotView) (chains : List PlainChain) (outcome : Outcome) → BothRead asked chains old first new →
+    RefusedOpening (first slots.Capture) (new slots.Capture) outcome →
     Ran (Ok asked) old new outcome (stop_text outcome)
 refused_ran asked old first new chains outcome both h = unopened_ran asked old new chains outcome (only_read asked chains old first new both) both.ready
     (subst (λ v. RefusedOpening v (new slots.Capture) outcome) (both.after_policy slots.Capture capture_is_not_policy) h)

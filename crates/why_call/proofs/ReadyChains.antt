@@ -16,7 +16,8 @@ in_their_order : (chains : List PlainChain) → ordered_of chains ≡ all_in_ord
 in_their_order [] = refl
 in_their_order (c ∷ cs) = ap (λ l. in_order c.declared c.order ∷ l) (in_their_order cs)
 
-pub ready_of : (old : SlotView) (policy : Judged) (chains : List PlainChain) → IfSome old.bytes (λ bytes. judged bytes ≡ Ok policy) → map (λ c. c.declared) chains ≡ policy.policy.chains → map (λ c. c.order) chains ≡ policy.orders →
+pub ready_of : (old : SlotView) (policy : Judged) (chains : List PlainChain) → IfSome old.bytes (λ bytes. judged bytes ≡ Ok policy) → map (λ c. c.declared) chains ≡ policy.policy.chains →
+    map (λ c. c.order) chains ≡ policy.orders →
     chains_of chains ≡ chains_judged policy → IsReady old chains
 ready_of old policy chains told declared orders runs = if_told old.bytes _ _ (λ bytes is. subst (IsReadyOf chains) (sym is) (
   runs,
